@@ -1,0 +1,7 @@
+pub mod Bytes
+pub mod Digits
+pub mod Faults
+pub mod Reader
+pub mod Vlq
+pub mod Writer
+pub mod Zigzag

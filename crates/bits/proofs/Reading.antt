@@ -9,8 +9,8 @@ use native.Mathlib.Nat.{mul-le-mul-right, div-mul-le-self, div-lt-iff-lt-mul, su
 use native.Mathlib.Omega.{arith}
 use Prim.Native.Nat.{ℕ, zero, suc, _+_, _-_, _*_, _/_, _≤_, _<_, min, zero-le, suc-le-suc}
 use Rattle.std.proofs.shelf.Tests.{cond-true, cond-false, le-leb, lt-leb, cases-lt, ne-eqb}
-use Rattle.bits.specs.Bytes.{bitsAt, cellsAt, overwrite}
-use Rattle.bits.proofs.Bytes.{fill-cells}
+use Rattle.packed.specs.Bytes.{bitsAt, cellsAt, overwrite}
+use Rattle.packed.proofs.Bytes.{fill-cells}
 use Rattle.bits.specs.Reader.{readOne, readable, Counted, Inside, Moved, page, position}
 use Rattle.bits.specs.declared.bit_reader.BitReader.{BitReader}
 

@@ -11,13 +11,13 @@ use native.Mathlib.Numerals.{add-one}
 use native.Mathlib.Omega.{arith}
 use Prim.Native.Nat.{ℕ, zero, suc, _+_, _*_, _-_, _/_, _%_, _^_, _≤_, _<_}
 use Rattle.std.proofs.shelf.Lists.{length-append, replicate-more, length-replicate}
-use Rattle.bits.specs.Bytes.{bitsAt, overwrite}
-use Rattle.bits.specs.Digits.{digits, number}
+use Rattle.packed.specs.Bytes.{bitsAt, overwrite}
+use Rattle.packed.specs.Digits.{digits, number}
 use Rattle.bits.specs.Writer.{Holds, PutBits, Wrote, buffer, bytesFor, heldBytes, wordsFor}
 use Rattle.bits.specs.declared.bit_writer.BitWriter.{BitWriter}
-use Rattle.bits.proofs.Bytes.{power-bits, shl-cut}
-use Rattle.bits.proofs.Digits.{length-digits, number-push, digits-push, digits-append, digits-same}
-use Rattle.bits.proofs.Overwrite.{overwrite-none, overwrite-inside, overwrite-push, overwrite-overwrite}
+use Rattle.packed.proofs.Bytes.{power-bits, shl-cut}
+use Rattle.packed.proofs.Digits.{length-digits, number-push, digits-push, digits-append, digits-same}
+use Rattle.packed.proofs.Overwrite.{overwrite-none, overwrite-inside, overwrite-push, overwrite-overwrite}
 
 -- ---- bytes of a number, one after the other
 

@@ -8,7 +8,7 @@ use lib.ListN.{length}
 use Prim.Native.Nat.{ℕ, _+_, _-_, _*_, _/_, _≤_, _<_, min}
 use Rattle.std.specs.declared.option.Option.{Option}
 use Rattle.std.specs.declared.option.Option.the-variants.{Some, None}
-use Rattle.bits.specs.Bytes.{bitsAt}
+use Rattle.packed.specs.Bytes.{bitsAt}
 use Rattle.bits.specs.declared.bit_reader.BitReader.{BitReader}
 
 abbrev pub page : BitReader → List ℕ

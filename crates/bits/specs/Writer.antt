@@ -4,8 +4,8 @@ use mathlib.Core.Path.{_≡_}
 use denote.Ref.{now}
 use lib.ListN.{length}
 use Prim.Native.Nat.{ℕ, _+_, _*_, _/_, _%_, _^_, _≤_, _<_}
-use Rattle.bits.specs.Bytes.{overwrite}
-use Rattle.bits.specs.Digits.{digits}
+use Rattle.packed.specs.Bytes.{overwrite}
+use Rattle.packed.specs.Digits.{digits}
 use Rattle.bits.specs.declared.bit_writer.BitWriter.{BitWriter}
 
 abbrev pub buffer : BitWriter → List ℕ

@@ -1,18 +1,18 @@
 //! A reader of packed values, whole bytes and variable-length numbers over a borrowed page.
 ghost use Prim.Native.Nat.{_+_, _*_, _%_, _≤_, _<_};
-ghost use Rattle.bits.specs.Bytes.{bitsAt, cellsAt, overwrite};
+ghost use Rattle.packed.specs.Bytes.{bitsAt, cellsAt, overwrite};
 ghost use Rattle.bits.specs.Reader.{Counted, Inside, Moved, nextByte, page, position, readOne};
-ghost use Rattle.bits.specs.Vlq.{numberOf, readVlq, signedOf, takenOf};
+ghost use Rattle.packed.specs.Vlq.{numberOf, readVlq, signedOf, takenOf};
 ghost use Rattle.std.specs.Options.{isSome};
 ghost use lib.ListN.{length};
 ghost use mathlib.Core.Bool.{cond};
 ghost use mathlib.Core.Path.{_≡_};
-use crate::bit_pack::FromBitpacked;
-use crate::bit_pack::bits_at;
-use crate::bit_pack::unpack_groups;
-use crate::faults::Fault;
-use crate::vlq::read_vlq;
-use crate::zigzag::from_zigzag;
+use packed::Fault;
+use packed::FromBitpacked;
+use packed::bits_at;
+use packed::from_zigzag;
+use packed::read_vlq;
+use packed::unpack_groups;
 
 /// Reads from a page, the lowest bit of each byte first.
 #[derive(Clone, Copy)]

@@ -1,17 +1,17 @@
 //! A writer of packed values, whole bytes and variable-length numbers over a lent buffer.
 ghost use Prim.Native.Nat.{ℕ, _+_, _*_, _/_, _%_, _^_, _≤_, _<_};
-ghost use Rattle.bits.specs.Bytes.{bitsAt, overwrite};
-ghost use Rattle.bits.specs.Digits.{digits, number};
-ghost use Rattle.bits.specs.Vlq.{vlq};
+ghost use Rattle.packed.specs.Bytes.{bitsAt, overwrite};
+ghost use Rattle.packed.specs.Digits.{digits, number};
+ghost use Rattle.packed.specs.Vlq.{vlq};
 ghost use Rattle.bits.specs.Writer.{Holds, PutBits, Wrote, buffer, bytesFor, heldBytes, wordsFor};
-ghost use Rattle.bits.specs.Zigzag.{zigzagOf};
+ghost use Rattle.packed.specs.Zigzag.{zigzagOf};
 ghost use denote.Ref.{name};
 ghost use lib.ListN.{getD, length, replicate, set};
 ghost use Rattle.bits.specs.declared.bit_writer.BitWriter.{BitWriter};
 ghost use mathlib.Core.List.{List, _++_};
 ghost use mathlib.Core.Path.{_≡_};
-use crate::vlq::write_vlq;
-use crate::zigzag::to_zigzag;
+use packed::to_zigzag;
+use packed::write_vlq;
 
 /// Writes into a buffer, the lowest bit of each byte first. Bits that do not fill a word yet are held back, until a word
 /// is full or the writer is flushed.

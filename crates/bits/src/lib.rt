@@ -1,29 +1,24 @@
-//! Bits, bytes and variable-length numbers: what every column is packed with.
+//! The bit layer: a reader and a writer of packed values over lent memory, and by name what they are made of.
 //!
 //! These are inner functions: the calls above them make every check, so they may have a `requires`.
-mod bit_pack;
 mod bit_reader;
 mod bit_writer;
-mod faults;
-mod vlq;
-mod zigzag;
 
-pub use bit_pack::FromBitpacked;
-pub use bit_pack::U8FromBitpacked;
-pub use bit_pack::U16FromBitpacked;
-pub use bit_pack::U32FromBitpacked;
-pub use bit_pack::U64FromBitpacked;
-pub use bit_pack::unpack;
-pub use bit_pack::unpack8;
-pub use bit_pack::unpack16;
-pub use bit_pack::unpack32;
-pub use bit_pack::unpack64;
 pub use bit_reader::BitReader;
 pub use bit_writer::BitWriter;
-pub use faults::Fault;
-pub use faults::FaultKind;
-pub use faults::Layer;
-pub use vlq::read_vlq;
-pub use vlq::write_vlq;
-pub use zigzag::from_zigzag;
-pub use zigzag::to_zigzag;
+pub use packed::Fault;
+pub use packed::FaultKind;
+pub use packed::FromBitpacked;
+pub use packed::Layer;
+pub use packed::U8FromBitpacked;
+pub use packed::U16FromBitpacked;
+pub use packed::U32FromBitpacked;
+pub use packed::U64FromBitpacked;
+pub use packed::from_zigzag;
+pub use packed::read_vlq;
+pub use packed::to_zigzag;
+pub use packed::unpack8;
+pub use packed::unpack16;
+pub use packed::unpack32;
+pub use packed::unpack64;
+pub use packed::write_vlq;

@@ -1,7 +1,7 @@
 use mathlib.Core.Path.{_≡_, ap, _∙_}
 use native.Mathlib.Omega.{arith}
-use Rattle.bits.specs.Bytes.{overwrite}
-use Rattle.bits.specs.Digits.{digits}
+use Rattle.packed.specs.Bytes.{overwrite}
+use Rattle.packed.specs.Digits.{digits}
 use Rattle.bits.proofs.Writing.{store-none, store-more}
 use Rattle.bits.proofs.bit_writer.store_bytes.Needs as need
 

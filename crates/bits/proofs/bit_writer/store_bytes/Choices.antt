@@ -1,6 +1,6 @@
 use mathlib.Core.Path.{_≡_}
-use Rattle.bits.specs.Bytes.{overwrite}
-use Rattle.bits.specs.Digits.{digits}
+use Rattle.packed.specs.Bytes.{overwrite}
+use Rattle.packed.specs.Digits.{digits}
 use Rattle.bits.proofs.bit_writer.store_bytes.Given as given
 
 abbrev pub Inv-loop-i : given.InvT-loop-i

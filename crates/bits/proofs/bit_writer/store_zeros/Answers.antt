@@ -1,8 +1,8 @@
 use mathlib.Core.Path.{_≡_, sym, ap, _∙_}
 use lib.ListN.{replicate}
 use native.Mathlib.Omega.{arith}
-use Rattle.bits.specs.Bytes.{overwrite}
-use Rattle.bits.proofs.Overwrite.{overwrite-none}
+use Rattle.packed.specs.Bytes.{overwrite}
+use Rattle.packed.proofs.Overwrite.{overwrite-none}
 use Rattle.bits.proofs.Writing.{zeros-more}
 use Rattle.bits.proofs.bit_writer.store_zeros.Needs as need
 

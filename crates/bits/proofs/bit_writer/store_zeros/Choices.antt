@@ -1,6 +1,6 @@
 use mathlib.Core.Path.{_≡_}
 use lib.ListN.{replicate}
-use Rattle.bits.specs.Bytes.{overwrite}
+use Rattle.packed.specs.Bytes.{overwrite}
 use Rattle.bits.proofs.bit_writer.store_zeros.Given as given
 
 abbrev pub Inv-loop-i : given.InvT-loop-i

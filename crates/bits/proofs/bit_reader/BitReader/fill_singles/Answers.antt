@@ -4,9 +4,9 @@ use native.Mathlib.Nat.{add-zero, zero-mul, suc-mul, mul-le-mul-right, add-assoc
 use native.Mathlib.Numerals.{add-one}
 use native.Mathlib.Omega.{arith}
 use Prim.Native.Nat.{suc, _+_, _*_, _≤_}
-use Rattle.bits.specs.Bytes.{bitsAt, cellsAt, overwrite}
+use Rattle.packed.specs.Bytes.{bitsAt, cellsAt, overwrite}
 use Rattle.bits.specs.Reader.{Moved, page, position}
-use Rattle.bits.proofs.Bytes.{fill-none, fill-more}
+use Rattle.packed.proofs.Bytes.{fill-none, fill-more}
 use Rattle.bits.proofs.Reading.{moved-none, moved-more}
 use Rattle.bits.proofs.bit_reader.BitReader.fill_singles.Needs as need
 

@@ -1,6 +1,6 @@
 use mathlib.Core.Path.{_≡_}
 use Prim.Native.Nat.{_+_, _*_}
-use Rattle.bits.specs.Bytes.{cellsAt, overwrite}
+use Rattle.packed.specs.Bytes.{cellsAt, overwrite}
 use Rattle.bits.specs.Reader.{Moved, page, position}
 use Rattle.bits.proofs.bit_reader.BitReader.fill_singles.Given as given
 

@@ -3,7 +3,7 @@ use lib.ListN.{length}
 use native.Mathlib.Omega.{arith}
 use Prim.Native.Nat.{_+_, _*_, _≤_}
 use Rattle.bits.specs.Reader.{Inside, Moved, page, position, nextByte}
-use Rattle.bits.specs.Vlq.{readVlq, numberOf, takenOf}
+use Rattle.packed.specs.Vlq.{readVlq, numberOf, takenOf}
 use Rattle.std.specs.declared.result.Result.the-variants.{Ok}
 use Rattle.bits.proofs.bit_reader.BitReader.get_vlq_int.Needs as need
 

@@ -1,8 +1,8 @@
 use mathlib.Core.Path.{refl, sym, ap}
 use native.Mathlib.Omega.{arith}
 use Prim.Native.Nat.{_+_}
-use Rattle.bits.specs.Digits.{digits}
-use Rattle.bits.proofs.Digits.{length-digits}
+use Rattle.packed.specs.Digits.{digits}
+use Rattle.packed.proofs.Digits.{length-digits}
 use Rattle.bits.proofs.Writing.{wrote-more}
 use Rattle.bits.proofs.bit_writer.BitWriter.append_bytes.Needs as need
 

@@ -6,10 +6,10 @@ use native.Mathlib.Nat.{zero-mul, suc-mul, mul-le-mul-right}
 use native.Mathlib.Omega.{arith}
 use Prim.Native.Nat.{suc, _+_, _*_, _^_, _≤_, _<_}
 use Rattle.std.proofs.shelf.Lists.{take-all}
-use Rattle.bits.specs.Bytes.{bitsAt, overwrite}
-use Rattle.bits.specs.Digits.{digits, number}
+use Rattle.packed.specs.Bytes.{bitsAt, overwrite}
+use Rattle.packed.specs.Digits.{digits, number}
 use Rattle.bits.specs.Writer.{Holds, PutBits, Wrote, buffer, bytesFor, heldBytes, wordsFor}
-use Rattle.bits.proofs.Bytes.{packed-back}
+use Rattle.packed.proofs.Bytes.{packed-back}
 use Rattle.bits.proofs.Writing.{put-none, put-value-more, put-flushed, wrote-more}
 use Rattle.bits.proofs.bit_writer.BitWriter.append_packed.Needs as need
 

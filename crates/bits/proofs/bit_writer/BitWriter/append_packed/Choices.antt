@@ -2,7 +2,7 @@ use mathlib.Core.Path.{_≡_}
 use denote.Ref.{name}
 use lib.ListN.{length, take}
 use Prim.Native.Nat.{_*_, _^_}
-use Rattle.bits.specs.Digits.{number}
+use Rattle.packed.specs.Digits.{number}
 use Rattle.bits.specs.Writer.{Holds, PutBits, buffer}
 use Rattle.bits.proofs.bit_writer.BitWriter.append_packed.Given as given
 

@@ -1,7 +1,7 @@
 use mathlib.Core.Path.{refl, sym, ap}
 use native.Mathlib.Omega.{arith}
 use Prim.Native.Nat.{_+_}
-use Rattle.bits.specs.Vlq.{vlq}
+use Rattle.packed.specs.Vlq.{vlq}
 use Rattle.bits.proofs.Writing.{wrote-more}
 use Rattle.bits.proofs.bit_writer.BitWriter.append_vlq.Needs as need
 

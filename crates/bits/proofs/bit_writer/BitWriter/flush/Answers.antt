@@ -2,10 +2,10 @@ use mathlib.Core.Path.{_≡_, refl, sym, ap, _∙_}
 use lib.ListN.{length}
 use native.Mathlib.Omega.{arith}
 use Prim.Native.Nat.{_+_}
-use Rattle.bits.specs.Bytes.{overwrite}
-use Rattle.bits.specs.Digits.{digits}
+use Rattle.packed.specs.Bytes.{overwrite}
+use Rattle.packed.specs.Digits.{digits}
 use Rattle.bits.specs.Writer.{buffer, bytesFor, heldBytes}
-use Rattle.bits.proofs.Digits.{length-digits}
+use Rattle.packed.proofs.Digits.{length-digits}
 use Rattle.bits.proofs.bit_writer.BitWriter.flush.Needs as need
 
 pub returns : need.returns

@@ -4,8 +4,8 @@ use lib.ListN.{length}
 use native.Mathlib.Nat.{div-one}
 use native.Mathlib.Omega.{arith}
 use Prim.Native.Nat.{_+_, _*_, _-_, _/_, _%_, _^_, _<_, _≤_}
-use Rattle.bits.specs.Bytes.{overwrite}
-use Rattle.bits.specs.Digits.{digits}
+use Rattle.packed.specs.Bytes.{overwrite}
+use Rattle.packed.specs.Digits.{digits}
 use Rattle.bits.specs.Writer.{buffer, wordsFor}
 use Rattle.bits.proofs.Writing.{store-none, word-is, word-whole, put-below, carry-is, carry-below, word-digits}
 use Rattle.bits.proofs.bit_writer.BitWriter.put_value.Needs as need

@@ -1,7 +1,0 @@
-use mathlib.Core.Path.{_≡_, sym, _∙_}
-use Rattle.bits.proofs.Bytes.{word-bytes}
-use Rattle.bits.proofs.bit_pack.load_word.Needs as need
-
-pub returns-then-s-at-ge8 : need.returns-then-s-at-ge8
-returns-then-s-at-ge8 c =
-    c .from-le-bytes .ensures ∙ sym (word-bytes (c .args .s .now) (c .args .at) (λ k. c .typed .s k .fits))

@@ -1,0 +1,4 @@
+pub mod Bytes
+pub mod Digits
+pub mod Overwrite
+pub mod VlqLaws

@@ -1,0 +1,5 @@
+pub mod Bytes
+pub mod Digits
+pub mod Faults
+pub mod Vlq
+pub mod Zigzag

@@ -45,8 +45,8 @@ pub impl FromBitpacked for u64 as U64FromBitpacked {
     }
 }
 
-/// The lowest `num_bits` bits of `v`.
-pub fn trailing_bits(v: u64, num_bits: usize) -> u64
+// The lowest `num_bits` bits of `v`.
+fn trailing_bits(v: u64, num_bits: usize) -> u64
     requires { ⌜ «num_bits» ≤ 64 ⌝ }
     ensures { λ r. ⌜ r ≡ v % 2 ^ «num_bits» ⌝ }
 {
@@ -57,16 +57,16 @@ pub fn trailing_bits(v: u64, num_bits: usize) -> u64
     }
 }
 
-/// The `num_bits` bits of a word that begin at bit `from`.
-pub fn word_bits(word: u64, from: usize, num_bits: usize) -> u64
+// The `num_bits` bits of a word that begin at bit `from`.
+fn word_bits(word: u64, from: usize, num_bits: usize) -> u64
     requires { ⌜ from < 64 ⌝ ∗ ⌜ «num_bits» ≤ 64 ⌝ }
     ensures { λ r. ⌜ r ≡ word / 2 ^ from % 2 ^ «num_bits» ⌝ }
 {
     trailing_bits(word >> from, num_bits)
 }
 
-/// Eight bytes as a word, the first byte lowest; past the end bytes are 0.
-pub fn load_word(s: &[u8], at: usize) -> u64
+// Eight bytes as a word, the first byte lowest; past the end bytes are 0.
+fn load_word(s: &[u8], at: usize) -> u64
     requires { ⌜ at ≤ length (now s) ⌝ }
     ensures { λ r. ⌜ r ≡ bitsAt (now (s .entry)) (8 * at) 64 ⌝ }
 {
@@ -112,8 +112,8 @@ pub fn bits_at(s: &[u8], byte: usize, bit: usize, num_bits: usize) -> u64
     trailing_bits((word >> bit) + high, num_bits)
 }
 
-/// Unpacks as many values as `output` has cells, a multiple of eight, from the first byte of `input` on.
-pub fn unpack<T: FromBitpacked>(input: &[u8], output: &mut [T], num_bits: usize)
+// Unpacks as many values as `output` has cells, a multiple of eight, from the first byte of `input` on.
+fn unpack<T: FromBitpacked>(input: &[u8], output: &mut [T], num_bits: usize)
     requires { ⌜ «num_bits» ≤ 64 ⌝ ∗ ⌜ length (now output) % 8 ≡ 0 ⌝ ∗ ⌜ length (now output) * «num_bits» ≤ 8 * length (now input) ⌝ }
     ensures { λ _. ⌜ now (output .exit) ≡ cellsAt (T·FromBitpacked .made) (now (input .entry)) 0 «num_bits» (length (now (output .entry))) ⌝ }
 {

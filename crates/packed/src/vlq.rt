@@ -3,14 +3,12 @@ ghost use Prim.Native.Nat.{ℕ, _+_, _^_, _≤_, _<_};
 ghost use Rattle.packed.specs.Bytes.{overwrite};
 ghost use Rattle.packed.specs.Vlq.{SoFar, readVlq, vlq};
 ghost use Rattle.std.specs.declared.result.Result.the-variants.{Ok};
+ghost use lib.Dec.{ltb};
 ghost use lib.ListN.{length};
 ghost use mathlib.Core.List.{List};
 ghost use mathlib.Core.Path.{_≡_};
 use crate::faults::Fault;
 use crate::faults::FaultKind;
-
-/// The most bytes that a number of 64 bits takes.
-pub const MAX_VLQ_BYTE_LEN: usize = 10;
 
 /// Writes `v` in the fewest bytes from `at` on, and answers how many they are.
 pub fn write_vlq(out: &mut [u8], at: usize, v: u64) -> usize
@@ -22,13 +20,20 @@ pub fn write_vlq(out: &mut [u8], at: usize, v: u64) -> usize
 {
     let mut rest = v;
     let mut i = at;
-    while rest >= 128 {
+    while !is_last(rest) {
         out[i] = 128 + (rest % 128) as u8;
         rest /= 128;
         i += 1;
     }
     out[i] = rest as u8;
     i + 1 - at
+}
+
+// Whether a number is one digit, with none to follow.
+fn is_last(n: u64) -> bool
+    ensures { λ r. ⌜ r ≡ ltb n 128 ⌝ }
+{
+    n < 128
 }
 
 /// Reads the number that begins at `at`: the number and how many bytes it took.
@@ -68,7 +73,7 @@ fn read_tenth(page: &[u8], at: usize, low: u64) -> Result<(u64, usize), Fault>
         });
     }
     let byte = page[at + 9];
-    if byte < 2 {
+    if fits_one_bit(byte) {
         return Ok((low + ((byte as u64) << 63), 10));
     }
     if byte < 128 || left > 10 {
@@ -81,4 +86,10 @@ fn read_tenth(page: &[u8], at: usize, low: u64) -> Result<(u64, usize), Fault>
         kind: FaultKind::DataEnds,
         place: at,
     })
+}
+
+fn fits_one_bit(byte: u8) -> bool
+    ensures { λ r. ⌜ r ≡ ltb byte 2 ⌝ }
+{
+    byte < 2
 }

@@ -1,5 +1,7 @@
 //! Signed numbers as unsigned ones that stay small near zero.
 ghost use Rattle.packed.specs.Zigzag.{zigzagOf, unzigzagOf};
+ghost use Prim.Native.Nat.{_^_, _<_};
+ghost use lib.IntN.{negsuc};
 ghost use mathlib.Core.Path.{_≡_};
 
 /// 2 v for v ≥ 0, and -2 v - 1 below.
@@ -19,6 +21,17 @@ pub fn from_zigzag(u: u64) -> i64
     ensures value { λ r. ⌜ r ≡ unzigzagOf u ⌝ }
     ensures back { λ r. ⌜ zigzagOf r ≡ u ⌝ }
 {
-    let half = (u / 2) as i64;
-    if u % 2 == 0 { half } else { -1 - half }
+    if u % 2 == 0 {
+        (u / 2) as i64
+    } else {
+        below_zero(u / 2)
+    }
+}
+
+// -(n + 1)
+fn below_zero(n: u64) -> i64
+    requires { ⌜ n < 2 ^ 63 ⌝ }
+    ensures { λ r. ⌜ r ≡ negsuc n ⌝ }
+{
+    -1 - n as i64
 }

@@ -6,10 +6,10 @@ use Rattle.packed.specs.Bytes.{overwrite}
 use Rattle.packed.specs.Vlq.{vlq}
 
 -- what is left to write ends as the whole number does
-abbrev pub Inv-loop-rest : given.InvT-loop-rest
-Inv-loop-rest l =
+abbrev pub Inv-loop-out : given.InvT-loop-out
+Inv-loop-out l =
     (overwrite (l .out) (l .i) (vlq (l .rest)) ≡ overwrite (l .entry .out) (l .at) (vlq (l .v)))
     × (l .i + length (vlq (l .rest)) ≡ l .at + length (vlq (l .v)))
 
-abbrev pub μ-loop-rest : given.MeasureT-loop-rest
-μ-loop-rest l = l .rest
+abbrev pub μ-loop-out : given.MeasureT-loop-out
+μ-loop-out l = l .rest

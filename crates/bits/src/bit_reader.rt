@@ -101,10 +101,7 @@ impl<'a> BitReader<'a> {
         ensures moved { λ _. ⌜ Moved (now (self .entry)) (now (self .exit)) (8 * (nextByte (now (self .entry)) + takenOf (readVlq (page (now (self .entry))) (nextByte (now (self .entry)))))) ⌝ }
     {
         self.align();
-        let at = self.byte_offset;
-        let (value, taken) = read_vlq(self.buffer, at)?;
-        self.byte_offset = at + taken;
-        Ok(value)
+        self.take_vlq()
     }
 
     /// The signed number whose zigzag begins at the next whole byte.
@@ -149,6 +146,18 @@ impl<'a> BitReader<'a> {
         let bits = self.bit_offset as u128 + num_values as u128 * num_bits as u128;
         self.byte_offset += (bits / 8) as usize;
         self.bit_offset = (bits % 8) as usize;
+    }
+
+    // The number that begins at this whole byte.
+    fn take_vlq(&mut self) -> Result<u64, Fault>
+        requires { ⌜ Inside (now self) ⌝ ∗ ⌜ now self .«bit_offset» ≡ 0 ⌝ }
+        ensures value { λ r. ⌜ r ≡ numberOf (readVlq (page (now (self .entry))) (now (self .entry) .«byte_offset»)) ⌝ }
+        ensures moved { λ _. ⌜ Moved (now (self .entry)) (now (self .exit)) (8 * (now (self .entry) .«byte_offset» + takenOf (readVlq (page (now (self .entry))) (now (self .entry) .«byte_offset»)))) ⌝ }
+    {
+        let at = self.byte_offset;
+        let (value, taken) = read_vlq(self.buffer, at)?;
+        self.byte_offset = at + taken;
+        Ok(value)
     }
 
     // Takes a value that is there.

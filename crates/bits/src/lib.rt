@@ -1,9 +1,6 @@
-//! The bit layer: a reader and a writer of packed values over lent memory, and by name what they are made of.
+//! The bit layer by name: a reader and a writer of packed values over lent memory, and what they are made of.
 //!
 //! These are inner functions: the calls above them make every check, so they may have a `requires`.
-mod bit_reader;
-mod bit_writer;
-
 pub use bit_reader::BitReader;
 pub use bit_writer::BitWriter;
 pub use packed::Fault;

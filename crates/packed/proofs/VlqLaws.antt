@@ -169,7 +169,7 @@ ten-continue s at v so = omega (arith, so .1)
 -- ---- what is written is read
 
 -- induction on the bytes of a number
-vlq-ind : (P : ℕ → Type 0) → ((n : ℕ) → n < 128 → P n) → ((n : ℕ) → 128 ≤ n → P (n / 128) → P n) → (n : ℕ) → P n
+pub vlq-ind : (P : ℕ → Type 0) → ((n : ℕ) → n < 128 → P n) → ((n : ℕ) → 128 ≤ n → P (n / 128) → P n) → (n : ℕ) → P n
 vlq-ind P last step n = go n n (le-refl n)
   where
     pick : (m : ℕ) → (m < 128) ⊎ (128 ≤ m) → (128 ≤ m → P (m / 128)) → P m

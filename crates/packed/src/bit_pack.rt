@@ -71,19 +71,26 @@ fn load_word(s: &[u8], at: usize) -> u64
     ensures { λ r. ⌜ r ≡ bitsAt (now (s .entry)) (8 * at) 64 ⌝ }
 {
     if s.len() - at >= 8 {
-        u64::from_le_bytes([
-            s[at],
-            s[at + 1],
-            s[at + 2],
-            s[at + 3],
-            s[at + 4],
-            s[at + 5],
-            s[at + 6],
-            s[at + 7],
-        ])
+        whole_word(s, at)
     } else {
         load_rest(s, at)
     }
+}
+
+fn whole_word(s: &[u8], at: usize) -> u64
+    requires { ⌜ at + 8 ≤ length (now s) ⌝ }
+    ensures { λ r. ⌜ r ≡ bitsAt (now (s .entry)) (8 * at) 64 ⌝ }
+{
+    u64::from_le_bytes([
+        s[at],
+        s[at + 1],
+        s[at + 2],
+        s[at + 3],
+        s[at + 4],
+        s[at + 5],
+        s[at + 6],
+        s[at + 7],
+    ])
 }
 
 // The bytes from `at` on, of which there are fewer than eight.
@@ -158,6 +165,8 @@ fn unpack_group<T: FromBitpacked>(
 {
     if num_bits <= 8 {
         unpack_narrow(input, start, output, at, num_bits);
+    } else if num_bits <= 57 && input.len() - start >= num_bits + 8 {
+        unpack_middle(input, start, output, at, num_bits);
     } else {
         unpack_wide(input, start, output, at, num_bits);
     }
@@ -180,7 +189,26 @@ fn unpack_narrow<T: FromBitpacked>(
     }
 }
 
-// Wider ones are read from a word each.
+// A value of at most 57 bits lies in the eight bytes from the one that it begins in. Where those are there for each of the
+// eight, nothing is left to test.
+fn unpack_middle<T: FromBitpacked>(
+    input: &[u8],
+    start: usize,
+    output: &mut [T],
+    at: usize,
+    num_bits: usize,
+)
+    requires { ⌜ «num_bits» ≤ 57 ⌝ ∗ ⌜ at + 8 ≤ length (now output) ⌝ ∗ ⌜ start + «num_bits» + 8 ≤ length (now input) ⌝ }
+    ensures { λ _. ⌜ now (output .exit) ≡ overwrite (now (output .entry)) at (cellsAt (T·FromBitpacked .made) (now (input .entry)) (8 * start) «num_bits» 8) ⌝ }
+{
+    for i in 0..8 {
+        let from = i * num_bits;
+        let word = whole_word(input, start + from / 8);
+        output[at + i] = T::from_u64(word_bits(word, from % 8, num_bits));
+    }
+}
+
+// Any other values, one by one.
 fn unpack_wide<T: FromBitpacked>(
     input: &[u8],
     start: usize,

@@ -1,7 +1,7 @@
 use mathlib.Core.Path.{_≡_, sym, _∙_}
 use Rattle.packed.proofs.Bytes.{word-bytes}
-use Rattle.packed.proofs.bit_pack.load_word.Needs as need
+use Rattle.packed.proofs.bit_pack.whole_word.Needs as need
 
-pub returns-then-s-at-ge8 : need.returns-then-s-at-ge8
-returns-then-s-at-ge8 c =
+pub returns : need.returns
+returns c =
     c .from-le-bytes .ensures ∙ sym (word-bytes (c .args .s .now) (c .args .at) (λ k. c .typed .s k .fits))

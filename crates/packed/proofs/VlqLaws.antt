@@ -202,26 +202,31 @@ length-vlq (suc k) n h =
     (λ large. rw (vlq-step n large) (suc-le-suc (length-vlq k (n / 128) (div-lt-iff-lt-mul (lit< tt) .1 (rw (← pow-suc 128 (suc k)) h)))))
     (cases-lt n 128)
 
--- reading what was written gives the number back and how many bytes it took, whatever follows
-pub read-written : (front : List ℕ) (n : ℕ) (rest : List ℕ) → n < 2 ^ 64 → readVlq (front ++ (vlq n ++ rest)) (length front) ≡ Ok (n, length (vlq n))
-read-written front n rest h =
-    let s = front ++ (vlq n ++ rest) in
-    let d : drop (length front) s ≡ vlq n ++ rest = drop-at front (vlq n ++ rest) (length front) refl in
-    let k : suc (continuing (drop (length front) s)) ≡ length (vlq n) = ap (λ x. suc (continuing x)) d ∙ continuing-vlq rest n in
-    let t : take (suc (continuing (drop (length front) s))) (drop (length front) s) ≡ vlq n = ap₂ take k d ∙ take-at (vlq n) rest (length (vlq n)) refl in
-    let v : number 128 (take (suc (continuing (drop (length front) s))) (drop (length front) s)) ≡ n = ap (number 128) t ∙ number-vlq n in
-    let short : length (vlq n) ≤ 10 = length-vlq 9 n (lt-of-lt-of-le h (lit≤ tt)) in
-    let long : length s ≡ length front + (length (vlq n) + length rest) = simp length-append in
+-- a field of at most ten bytes, of which just the last does not continue, is read as its number, whatever stands around it
+pub read-field : (front field rest : List ℕ) (n : ℕ) → number 128 field ≡ n → suc (continuing (field ++ rest)) ≡ length field → length field ≤ 10 → n < 2 ^ 64 → readVlq (front ++ (field ++ rest)) (length front) ≡ Ok (n, length field)
+read-field front field rest n is ends short h =
+    let s = front ++ (field ++ rest) in
+    let d : drop (length front) s ≡ field ++ rest = drop-at front (field ++ rest) (length front) refl in
+    let k : suc (continuing (drop (length front) s)) ≡ length field = ap (λ x. suc (continuing x)) d ∙ ends in
+    let t : take (suc (continuing (drop (length front) s))) (drop (length front) s) ≡ field = ap₂ take k d ∙ take-at field rest (length field) refl in
+    let v : number 128 (take (suc (continuing (drop (length front) s))) (drop (length front) s)) ≡ n = ap (number 128) t ∙ is in
+    let long : length s ≡ length front + (length field + length rest) = simp length-append in
     read-number s (length front) (omega arith) (omega arith) (omega arith) ∙ ap₂ (λ x y. Ok (x, y)) v k
 
--- what a number that was read is
-record WasRead (s : List ℕ) (at n k : ℕ) : Type 0 where
-  inside : at + continuing (drop at s) < length s
-  number-is : n ≡ number 128 (take (suc (continuing (drop at s))) (drop at s))
-  taken-is : k ≡ suc (continuing (drop at s))
-  below : n < 2 ^ 64
+-- reading what was written gives the number back and how many bytes it took
+pub read-written : (front : List ℕ) (n : ℕ) (rest : List ℕ) → n < 2 ^ 64 → readVlq (front ++ (vlq n ++ rest)) (length front) ≡ Ok (n, length (vlq n))
+read-written front n rest h =
+    read-field front (vlq n) rest n (number-vlq n) (continuing-vlq rest n) (length-vlq 9 n (lt-of-lt-of-le h (lit≤ tt))) h
 
-was-read : (s : List ℕ) (at n k : ℕ) → readVlq s at ≡ Ok (n, k) → WasRead s at n k
+-- what a number that was read is
+pub record WasRead (s : List ℕ) (at n k : ℕ) : Type 0 where
+  pub few : continuing (drop at s) < 10
+  pub inside : at + continuing (drop at s) < length s
+  pub number-is : n ≡ number 128 (take (suc (continuing (drop at s))) (drop at s))
+  pub taken-is : k ≡ suc (continuing (drop at s))
+  pub below : n < 2 ^ 64
+
+pub was-read : (s : List ℕ) (at n k : ℕ) → readVlq s at ≡ Ok (n, k) → WasRead s at n k
 was-read s at n k e =
     ⊎-elim
     (λ few. ⊎-elim
@@ -250,7 +255,7 @@ was-read s at n k e =
     found few inside small f =
         let both : _≡_ {A = ℕ × ℕ} (n, k) (number 128 (take (suc c) d), suc c) = (cc) in
         let is : n ≡ number 128 (take (suc c) d) = ap (λ x. x .0) both in
-        record { inside = inside; number-is = is; taken-is = ap (λ x. x .1) both; below = omega arith }
+        record { few = few; inside = inside; number-is = is; taken-is = ap (λ x. x .1) both; below = omega arith }
 
 -- no shorter bytes are read as the number
 pub read-fewest : (s : List ℕ) (at n k : ℕ) → readVlq s at ≡ Ok (n, k) → length (vlq n) ≤ k
@@ -263,6 +268,9 @@ read-fewest s at n k e =
 
 pub read-below : (s : List ℕ) (at n k : ℕ) → readVlq s at ≡ Ok (n, k) → n < 2 ^ 64
 read-below s at n k e = was-read s at n k e .below
+
+pub read-some : (s : List ℕ) (at n k : ℕ) → readVlq s at ≡ Ok (n, k) → 0 < k
+read-some s at n k e = let w = was-read s at n k e in omega (arith, w .taken-is)
 
 pub read-within : (s : List ℕ) (at n k : ℕ) → readVlq s at ≡ Ok (n, k) → at + k ≤ length s
 read-within s at n k e = let w = was-read s at n k e in omega (arith, w .inside, w .taken-is)

@@ -1,0 +1,5 @@
+pub mod Hybrid
+pub mod Lenient
+pub mod Reading
+pub mod Runs
+pub mod Theorems

@@ -53,7 +53,7 @@ follow-same w s at j k (repeats n v next) later same = ap (before _) (same next 
 follow-same w s at j k (packs n start next) later same = ap (before _) (same next later)
 
 -- nothing stands behind the data
-past-stands : (w : ℕ) (s : List ℕ) (at : ℕ) → length s ≤ at → runAt w s at ≡ ended
+pub past-stands : (w : ℕ) (s : List ℕ) (at : ℕ) → length s ≤ at → runAt w s at ≡ ended
 unfolding headed continuing
 past-stands w s at past =
     let k : continuing (drop at s) ≡ 0 = ap continuing (drop-all at s past) in

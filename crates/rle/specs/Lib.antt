@@ -1,3 +1,4 @@
+pub mod Found
 pub mod Hybrid
 pub mod Lenient
 pub mod Reading

@@ -51,11 +51,12 @@ packedAt w s at start g =
     cond (ltb 2147483647 (8 * g)) (stop RunTooLong at) (packs (readable s (8 * start) w (8 * g)) start (min (start + g * w) (length s)))
 
 -- Header 0 ends the page; an even one repeats a value, an odd one packs groups.
+abbrev pub headedAt : ℕ → List ℕ → ℕ → ℕ → ℕ → Stand
+headedAt w s at start h = cond (eqb h 0) ended (cond (eqb (h % 2) 0) (repeatedAt w s at start (h / 2)) (packedAt w s at start (h / 2)))
+
 unfoldable pub headed : ℕ → List ℕ → ℕ → Result (ℕ × ℕ) Fault → Stand
 headed w s at (Err f) = cond (endsPage (f .kind)) ended (stopped f)
-headed w s at (Ok r) =
-    cond (eqb (r .0) 0) ended
-    (cond (eqb (r .0 % 2) 0) (repeatedAt w s at (at + r .1) (r .0 / 2)) (packedAt w s at (at + r .1) (r .0 / 2)))
+headed w s at (Ok r) = headedAt w s at (at + r .1) (r .0)
 
 abbrev pub runAt : ℕ → List ℕ → ℕ → Stand
 runAt w s at = headed w s at (readVlq s at)

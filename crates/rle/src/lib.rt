@@ -1,6 +1,10 @@
-//! The RLE/bit-packed hybrid: what its pages are, and what is proved of them.
+//! The RLE/bit-packed hybrid: what its pages are, what is proved of them, and how a run is read.
 //!
-//! Each function here is a theorem: it stands in the function's contract, over every width, list and page.
+//! The functions of this file are theorems: each stands in its function's contract, over every width, list and page.
+mod runs;
+
+pub use runs::Found;
+pub use runs::run_at;
 ghost use Rattle.rle.specs.Theorems.{ReadStands, StandingIsRead, WrittenIsRead, WrittenIsShort, WrittenStands};
 
 /// A written page stands, in the public format, for its list and at most seven zeros behind it.

@@ -7,8 +7,8 @@ ghost use Rattle.std.specs.Options.{isSome};
 ghost use lib.ListN.{length};
 ghost use mathlib.Core.Bool.{cond};
 ghost use mathlib.Core.Path.{_≡_};
+use packed::Element;
 use packed::Fault;
-use packed::FromBitpacked;
 use packed::bits_at;
 use packed::from_zigzag;
 use packed::read_vlq;
@@ -72,10 +72,10 @@ impl<'a> BitReader<'a> {
     }
 
     /// The next values, as many as `batch` has cells or are left, and how many they were. The other cells stay.
-    pub fn get_batch<T: FromBitpacked>(&mut self, batch: &mut [T], num_bits: usize) -> usize
+    pub fn get_batch<T: Element>(&mut self, batch: &mut [T], num_bits: usize) -> usize
         requires { ⌜ Inside (now self) ⌝ ∗ ⌜ «num_bits» ≤ 64 ⌝ }
         ensures count { λ r. ⌜ Counted (page (now (self .entry))) (position (now (self .entry))) «num_bits» (length (now (batch .entry))) r ⌝ }
-        ensures cells { λ r. ⌜ now (batch .exit) ≡ overwrite (now (batch .entry)) 0 (cellsAt (T·FromBitpacked .made) (page (now (self .entry))) (position (now (self .entry))) «num_bits» r) ⌝ }
+        ensures cells { λ r. ⌜ now (batch .exit) ≡ overwrite (now (batch .entry)) 0 (cellsAt (T·Element .made) (page (now (self .entry))) (position (now (self .entry))) «num_bits» r) ⌝ }
         ensures moved { λ r. ⌜ Moved (now (self .entry)) (now (self .exit)) (position (now (self .entry)) + r * «num_bits») ⌝ }
     {
         let count = self.readable(batch.len(), num_bits);
@@ -173,9 +173,9 @@ impl<'a> BitReader<'a> {
 
     // `count` values that are there, into the cells from `at` on: one by one up to a whole byte, then by the kernels, then
     // those of the last group.
-    fn fill<T: FromBitpacked>(&mut self, batch: &mut [T], at: usize, count: usize, num_bits: usize)
+    fn fill<T: Element>(&mut self, batch: &mut [T], at: usize, count: usize, num_bits: usize)
         requires { ⌜ Inside (now self) ⌝ ∗ ⌜ «num_bits» ≤ 64 ⌝ ∗ ⌜ at + count ≤ length (now batch) ⌝ ∗ ⌜ position (now self) + count * «num_bits» ≤ 8 * length (page (now self)) ⌝ }
-        ensures cells { λ _. ⌜ now (batch .exit) ≡ overwrite (now (batch .entry)) at (cellsAt (T·FromBitpacked .made) (page (now (self .entry))) (position (now (self .entry))) «num_bits» count) ⌝ }
+        ensures cells { λ _. ⌜ now (batch .exit) ≡ overwrite (now (batch .entry)) at (cellsAt (T·Element .made) (page (now (self .entry))) (position (now (self .entry))) «num_bits» count) ⌝ }
         ensures moved { λ _. ⌜ Moved (now (self .entry)) (now (self .exit)) (position (now (self .entry)) + count * «num_bits») ⌝ }
     {
         let head = self.values_to_byte(count, num_bits);
@@ -203,7 +203,7 @@ impl<'a> BitReader<'a> {
         count
     }
 
-    fn fill_singles<T: FromBitpacked>(
+    fn fill_singles<T: Element>(
         &mut self,
         batch: &mut [T],
         at: usize,
@@ -211,16 +211,16 @@ impl<'a> BitReader<'a> {
         num_bits: usize,
     )
         requires { ⌜ Inside (now self) ⌝ ∗ ⌜ «num_bits» ≤ 64 ⌝ ∗ ⌜ at + count ≤ length (now batch) ⌝ ∗ ⌜ position (now self) + count * «num_bits» ≤ 8 * length (page (now self)) ⌝ }
-        ensures cells { λ _. ⌜ now (batch .exit) ≡ overwrite (now (batch .entry)) at (cellsAt (T·FromBitpacked .made) (page (now (self .entry))) (position (now (self .entry))) «num_bits» count) ⌝ }
+        ensures cells { λ _. ⌜ now (batch .exit) ≡ overwrite (now (batch .entry)) at (cellsAt (T·Element .made) (page (now (self .entry))) (position (now (self .entry))) «num_bits» count) ⌝ }
         ensures moved { λ _. ⌜ Moved (now (self .entry)) (now (self .exit)) (position (now (self .entry)) + count * «num_bits») ⌝ }
     {
         for i in 0..count {
-            batch[at + i] = T::from_u64(self.take_value(num_bits));
+            batch[at + i] = T::from_pattern(self.take_value(num_bits));
         }
     }
 
     // Groups of eight, from a whole byte on.
-    fn fill_groups<T: FromBitpacked>(
+    fn fill_groups<T: Element>(
         &mut self,
         batch: &mut [T],
         at: usize,
@@ -228,7 +228,7 @@ impl<'a> BitReader<'a> {
         num_bits: usize,
     )
         requires { ⌜ Inside (now self) ⌝ ∗ ⌜ «num_bits» ≤ 64 ⌝ ∗ ⌜ at + 8 * groups ≤ length (now batch) ⌝ ∗ ⌜ position (now self) + 8 * groups * «num_bits» ≤ 8 * length (page (now self)) ⌝ ∗ ⌜ position (now self) % 8 ≡ 0 ⌝ }
-        ensures cells { λ _. ⌜ now (batch .exit) ≡ overwrite (now (batch .entry)) at (cellsAt (T·FromBitpacked .made) (page (now (self .entry))) (position (now (self .entry))) «num_bits» (8 * groups)) ⌝ }
+        ensures cells { λ _. ⌜ now (batch .exit) ≡ overwrite (now (batch .entry)) at (cellsAt (T·Element .made) (page (now (self .entry))) (position (now (self .entry))) «num_bits» (8 * groups)) ⌝ }
         ensures moved { λ _. ⌜ Moved (now (self .entry)) (now (self .exit)) (position (now (self .entry)) + 8 * groups * «num_bits») ⌝ }
     {
         unpack_groups(self.buffer, self.byte_offset, batch, at, groups, num_bits);

@@ -24,11 +24,11 @@ use crate::cases::RefusalFromAlloc;
 use crate::cases::RefusalFromRefused;
 use bits::BitReader;
 use bits::BitWriter;
-use bits::FromBitpacked;
-use bits::U8FromBitpacked;
-use bits::U16FromBitpacked;
-use bits::U32FromBitpacked;
-use bits::U64FromBitpacked;
+use bits::Element;
+use bits::U8Element;
+use bits::U16Element;
+use bits::U32Element;
+use bits::U64Element;
 use bits::from_zigzag;
 use bits::read_vlq;
 use bits::to_zigzag;
@@ -137,7 +137,7 @@ fn reader_behind<'a>(bytes: &'a [u8], layout: Layout) -> BitReader<'a>
 }
 
 // Up to `count` values by single reads, each as a cell keeps it.
-fn take_values<T: FromBitpacked + Into<u64>>(
+fn take_values<T: Element + Into<u64>>(
     heap: Global,
     mut reader: BitReader<'_>,
     layout: Layout,
@@ -148,13 +148,13 @@ fn take_values<T: FromBitpacked + Into<u64>>(
     let mut values = Vec::new(heap);
     for _ in 0..count {
         if let Some(value) = reader.get_value(layout.width) {
-            values.push(T::from_u64(value).into())?;
+            values.push(T::from_pattern(value).into())?;
         }
     }
     Ok(values)
 }
 
-fn read_batch<T: FromBitpacked + Clone + Into<u64>>(
+fn read_batch<T: Element + Clone + Into<u64>>(
     heap: Global,
     batch: &Batch,
 ) -> Result<Answer, Refusal> {
@@ -162,7 +162,7 @@ fn read_batch<T: FromBitpacked + Clone + Into<u64>>(
     if batch.cells > MOST_VALUES {
         return Err(Refusal::TooManyValues);
     }
-    let mut cells = vec![in heap; T::from_u64(9); batch.cells]?;
+    let mut cells = vec![in heap; T::from_pattern(9); batch.cells]?;
     let before = reader_behind(batch.page.as_slice(), layout);
     let mut reader = before;
     let count = reader.get_batch(cells.as_mut_slice(), layout.width);

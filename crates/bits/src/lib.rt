@@ -3,14 +3,16 @@
 //! These are inner functions: the calls above them make every check, so they may have a `requires`.
 pub use bit_reader::BitReader;
 pub use bit_writer::BitWriter;
+pub use packed::Element;
 pub use packed::Fault;
 pub use packed::FaultKind;
-pub use packed::FromBitpacked;
+pub use packed::I32Element;
+pub use packed::I64Element;
 pub use packed::Layer;
-pub use packed::U8FromBitpacked;
-pub use packed::U16FromBitpacked;
-pub use packed::U32FromBitpacked;
-pub use packed::U64FromBitpacked;
+pub use packed::U8Element;
+pub use packed::U16Element;
+pub use packed::U32Element;
+pub use packed::U64Element;
 pub use packed::from_zigzag;
 pub use packed::read_vlq;
 pub use packed::to_zigzag;

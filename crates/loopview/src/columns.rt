@@ -21,7 +21,7 @@ use bits::BitWriter;
 use bits::Fault;
 use bits::FaultKind;
 use bits::Layer;
-use bits::U8FromBitpacked;
+use bits::U8Element;
 use std::alloc::AllocError;
 use std::alloc::Global;
 use std::alloc::Refused;

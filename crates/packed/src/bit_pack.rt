@@ -1,49 +1,9 @@
 //! Packed values and the kernels that unpack them: whole words, shifts and masks, at a width that is known at run time.
-ghost use Prim.Native.Nat.{ℕ, _+_, _*_, _/_, _%_, _^_, _≤_, _<_};
+ghost use Prim.Native.Nat.{_+_, _*_, _/_, _%_, _^_, _≤_, _<_};
 ghost use Rattle.packed.specs.Bytes.{bitsAt, cellsAt, overwrite};
 ghost use lib.ListN.{length};
 ghost use mathlib.Core.Path.{_≡_};
-
-/// A cell that a packed value is unpacked into.
-pub trait FromBitpacked: Copy {
-    ghost made: { ℕ → Self };
-
-    /// The cell's value of a pattern.
-    fn from_u64(v: u64) -> Self
-        ensures { λ r. ⌜ r ≡ made v ⌝ };
-}
-
-pub impl FromBitpacked for u8 as U8FromBitpacked {
-    ghost made = { λ v. v % 2 ^ 8 };
-
-    fn from_u64(v: u64) -> u8 {
-        (v % 256) as u8
-    }
-}
-
-pub impl FromBitpacked for u16 as U16FromBitpacked {
-    ghost made = { λ v. v % 2 ^ 16 };
-
-    fn from_u64(v: u64) -> u16 {
-        (v % 65536) as u16
-    }
-}
-
-pub impl FromBitpacked for u32 as U32FromBitpacked {
-    ghost made = { λ v. v % 2 ^ 32 };
-
-    fn from_u64(v: u64) -> u32 {
-        (v % 4294967296) as u32
-    }
-}
-
-pub impl FromBitpacked for u64 as U64FromBitpacked {
-    ghost made = { λ v. v };
-
-    fn from_u64(v: u64) -> u64 {
-        v
-    }
-}
+use crate::element::Element;
 
 // The lowest `num_bits` bits of `v`.
 fn trailing_bits(v: u64, num_bits: usize) -> u64
@@ -120,9 +80,9 @@ pub fn bits_at(s: &[u8], byte: usize, bit: usize, num_bits: usize) -> u64
 }
 
 // Unpacks as many values as `output` has cells, a multiple of eight, from the first byte of `input` on.
-fn unpack<T: FromBitpacked>(input: &[u8], output: &mut [T], num_bits: usize)
+fn unpack<T: Element>(input: &[u8], output: &mut [T], num_bits: usize)
     requires { ⌜ «num_bits» ≤ 64 ⌝ ∗ ⌜ length (now output) % 8 ≡ 0 ⌝ ∗ ⌜ length (now output) * «num_bits» ≤ 8 * length (now input) ⌝ }
-    ensures { λ _. ⌜ now (output .exit) ≡ cellsAt (T·FromBitpacked .made) (now (input .entry)) 0 «num_bits» (length (now (output .entry))) ⌝ }
+    ensures { λ _. ⌜ now (output .exit) ≡ cellsAt (T·Element .made) (now (input .entry)) 0 «num_bits» (length (now (output .entry))) ⌝ }
 {
     let groups = output.len() / 8;
     unpack_groups(input, 0, output, 0, groups, num_bits);
@@ -130,7 +90,7 @@ fn unpack<T: FromBitpacked>(input: &[u8], output: &mut [T], num_bits: usize)
 
 /// Unpacks groups of eight values from the byte `start` on, into the cells from `at` on. Eight values of any width fill
 /// whole bytes.
-pub fn unpack_groups<T: FromBitpacked>(
+pub fn unpack_groups<T: Element>(
     input: &[u8],
     start: usize,
     output: &mut [T],
@@ -139,7 +99,7 @@ pub fn unpack_groups<T: FromBitpacked>(
     num_bits: usize,
 )
     requires { ⌜ «num_bits» ≤ 64 ⌝ ∗ ⌜ at + 8 * groups ≤ length (now output) ⌝ ∗ ⌜ start + groups * «num_bits» ≤ length (now input) ⌝ }
-    ensures { λ _. ⌜ now (output .exit) ≡ overwrite (now (output .entry)) at (cellsAt (T·FromBitpacked .made) (now (input .entry)) (8 * start) «num_bits» (8 * groups)) ⌝ }
+    ensures { λ _. ⌜ now (output .exit) ≡ overwrite (now (output .entry)) at (cellsAt (T·Element .made) (now (input .entry)) (8 * start) «num_bits» (8 * groups)) ⌝ }
 {
     for group in 0..groups {
         unpack_group(
@@ -153,7 +113,7 @@ pub fn unpack_groups<T: FromBitpacked>(
 }
 
 // Eight values from the byte `start` on, into the cells from `at` on.
-fn unpack_group<T: FromBitpacked>(
+fn unpack_group<T: Element>(
     input: &[u8],
     start: usize,
     output: &mut [T],
@@ -161,7 +121,7 @@ fn unpack_group<T: FromBitpacked>(
     num_bits: usize,
 )
     requires { ⌜ «num_bits» ≤ 64 ⌝ ∗ ⌜ at + 8 ≤ length (now output) ⌝ ∗ ⌜ start + «num_bits» ≤ length (now input) ⌝ }
-    ensures { λ _. ⌜ now (output .exit) ≡ overwrite (now (output .entry)) at (cellsAt (T·FromBitpacked .made) (now (input .entry)) (8 * start) «num_bits» 8) ⌝ }
+    ensures { λ _. ⌜ now (output .exit) ≡ overwrite (now (output .entry)) at (cellsAt (T·Element .made) (now (input .entry)) (8 * start) «num_bits» 8) ⌝ }
 {
     if num_bits <= 8 {
         unpack_narrow(input, start, output, at, num_bits);
@@ -173,7 +133,7 @@ fn unpack_group<T: FromBitpacked>(
 }
 
 // Eight values of at most eight bits lie in one word.
-fn unpack_narrow<T: FromBitpacked>(
+fn unpack_narrow<T: Element>(
     input: &[u8],
     start: usize,
     output: &mut [T],
@@ -181,17 +141,17 @@ fn unpack_narrow<T: FromBitpacked>(
     num_bits: usize,
 )
     requires { ⌜ «num_bits» ≤ 8 ⌝ ∗ ⌜ at + 8 ≤ length (now output) ⌝ ∗ ⌜ start + «num_bits» ≤ length (now input) ⌝ }
-    ensures { λ _. ⌜ now (output .exit) ≡ overwrite (now (output .entry)) at (cellsAt (T·FromBitpacked .made) (now (input .entry)) (8 * start) «num_bits» 8) ⌝ }
+    ensures { λ _. ⌜ now (output .exit) ≡ overwrite (now (output .entry)) at (cellsAt (T·Element .made) (now (input .entry)) (8 * start) «num_bits» 8) ⌝ }
 {
     let word = load_word(input, start);
     for i in 0..8 {
-        output[at + i] = T::from_u64(word_bits(word, i * num_bits, num_bits));
+        output[at + i] = T::from_pattern(word_bits(word, i * num_bits, num_bits));
     }
 }
 
 // A value of at most 57 bits lies in the eight bytes from the one that it begins in. Where those are there for each of the
 // eight, nothing is left to test.
-fn unpack_middle<T: FromBitpacked>(
+fn unpack_middle<T: Element>(
     input: &[u8],
     start: usize,
     output: &mut [T],
@@ -199,60 +159,54 @@ fn unpack_middle<T: FromBitpacked>(
     num_bits: usize,
 )
     requires { ⌜ «num_bits» ≤ 57 ⌝ ∗ ⌜ at + 8 ≤ length (now output) ⌝ ∗ ⌜ start + «num_bits» + 8 ≤ length (now input) ⌝ }
-    ensures { λ _. ⌜ now (output .exit) ≡ overwrite (now (output .entry)) at (cellsAt (T·FromBitpacked .made) (now (input .entry)) (8 * start) «num_bits» 8) ⌝ }
+    ensures { λ _. ⌜ now (output .exit) ≡ overwrite (now (output .entry)) at (cellsAt (T·Element .made) (now (input .entry)) (8 * start) «num_bits» 8) ⌝ }
 {
     for i in 0..8 {
         let from = i * num_bits;
         let word = whole_word(input, start + from / 8);
-        output[at + i] = T::from_u64(word_bits(word, from % 8, num_bits));
+        output[at + i] = T::from_pattern(word_bits(word, from % 8, num_bits));
     }
 }
 
 // Any other values, one by one.
-fn unpack_wide<T: FromBitpacked>(
-    input: &[u8],
-    start: usize,
-    output: &mut [T],
-    at: usize,
-    num_bits: usize,
-)
+fn unpack_wide<T: Element>(input: &[u8], start: usize, output: &mut [T], at: usize, num_bits: usize)
     requires { ⌜ «num_bits» ≤ 64 ⌝ ∗ ⌜ at + 8 ≤ length (now output) ⌝ ∗ ⌜ start + «num_bits» ≤ length (now input) ⌝ }
-    ensures { λ _. ⌜ now (output .exit) ≡ overwrite (now (output .entry)) at (cellsAt (T·FromBitpacked .made) (now (input .entry)) (8 * start) «num_bits» 8) ⌝ }
+    ensures { λ _. ⌜ now (output .exit) ≡ overwrite (now (output .entry)) at (cellsAt (T·Element .made) (now (input .entry)) (8 * start) «num_bits» 8) ⌝ }
 {
     for i in 0..8 {
         let from = i * num_bits;
-        output[at + i] = T::from_u64(bits_at(input, start + from / 8, from % 8, num_bits));
+        output[at + i] = T::from_pattern(bits_at(input, start + from / 8, from % 8, num_bits));
     }
 }
 
 /// The kernel of 8 values, at a width of at most 8 bits.
-pub fn unpack8<T: FromBitpacked>(input: &[u8], output: &mut [T], num_bits: usize)
+pub fn unpack8<T: Element>(input: &[u8], output: &mut [T], num_bits: usize)
     requires { ⌜ «num_bits» ≤ 8 ⌝ ∗ ⌜ length (now output) ≡ 8 ⌝ ∗ ⌜ «num_bits» ≤ length (now input) ⌝ }
-    ensures { λ _. ⌜ now (output .exit) ≡ cellsAt (T·FromBitpacked .made) (now (input .entry)) 0 «num_bits» 8 ⌝ }
+    ensures { λ _. ⌜ now (output .exit) ≡ cellsAt (T·Element .made) (now (input .entry)) 0 «num_bits» 8 ⌝ }
 {
     unpack(input, output, num_bits);
 }
 
 /// The kernel of 16 values, at a width of at most 16 bits.
-pub fn unpack16<T: FromBitpacked>(input: &[u8], output: &mut [T], num_bits: usize)
+pub fn unpack16<T: Element>(input: &[u8], output: &mut [T], num_bits: usize)
     requires { ⌜ «num_bits» ≤ 16 ⌝ ∗ ⌜ length (now output) ≡ 16 ⌝ ∗ ⌜ 2 * «num_bits» ≤ length (now input) ⌝ }
-    ensures { λ _. ⌜ now (output .exit) ≡ cellsAt (T·FromBitpacked .made) (now (input .entry)) 0 «num_bits» 16 ⌝ }
+    ensures { λ _. ⌜ now (output .exit) ≡ cellsAt (T·Element .made) (now (input .entry)) 0 «num_bits» 16 ⌝ }
 {
     unpack(input, output, num_bits);
 }
 
 /// The kernel of 32 values, at a width of at most 32 bits.
-pub fn unpack32<T: FromBitpacked>(input: &[u8], output: &mut [T], num_bits: usize)
+pub fn unpack32<T: Element>(input: &[u8], output: &mut [T], num_bits: usize)
     requires { ⌜ «num_bits» ≤ 32 ⌝ ∗ ⌜ length (now output) ≡ 32 ⌝ ∗ ⌜ 4 * «num_bits» ≤ length (now input) ⌝ }
-    ensures { λ _. ⌜ now (output .exit) ≡ cellsAt (T·FromBitpacked .made) (now (input .entry)) 0 «num_bits» 32 ⌝ }
+    ensures { λ _. ⌜ now (output .exit) ≡ cellsAt (T·Element .made) (now (input .entry)) 0 «num_bits» 32 ⌝ }
 {
     unpack(input, output, num_bits);
 }
 
 /// The kernel of 64 values, at any width.
-pub fn unpack64<T: FromBitpacked>(input: &[u8], output: &mut [T], num_bits: usize)
+pub fn unpack64<T: Element>(input: &[u8], output: &mut [T], num_bits: usize)
     requires { ⌜ «num_bits» ≤ 64 ⌝ ∗ ⌜ length (now output) ≡ 64 ⌝ ∗ ⌜ 8 * «num_bits» ≤ length (now input) ⌝ }
-    ensures { λ _. ⌜ now (output .exit) ≡ cellsAt (T·FromBitpacked .made) (now (input .entry)) 0 «num_bits» 64 ⌝ }
+    ensures { λ _. ⌜ now (output .exit) ≡ cellsAt (T·Element .made) (now (input .entry)) 0 «num_bits» 64 ⌝ }
 {
     unpack(input, output, num_bits);
 }

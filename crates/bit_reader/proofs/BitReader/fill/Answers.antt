@@ -56,7 +56,7 @@ fill-singles-requires-2 g c κs =
 
 pub returns : need.returns
 returns g c =
-    let made = g .T·FromBitpacked .made in
+    let made = g .T·Element .made in
     let o = c .args .batch .now in
     let at = c .args .at in
     let w = c .args .num-bits in

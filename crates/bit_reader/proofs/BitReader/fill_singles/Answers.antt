@@ -13,7 +13,7 @@ use Rattle.bit_reader.proofs.BitReader.fill_singles.Needs as need
 pub loop-i-holds : need.loop-i-holds
 loop-i-holds g c =
     let r = c .args .self .now in (
-      fill-none (g .T·FromBitpacked .made) (page r) (c .args .batch .now) (c .args .at) (position r) (c .args .num-bits),
+      fill-none (g .T·Element .made) (page r) (c .args .batch .now) (c .args .at) (position r) (c .args .num-bits),
       moved-none r (position r + 0 * c .args .num-bits) (c .pre .0) (omega arith),
     )
 
@@ -33,8 +33,8 @@ loop-i-again g c =
     let w = c .args .num-bits in
     let moved = c .loop-i .inv .1 in
     let step : (c .loop-i .i + 1) * w ≡ c .loop-i .i * w + w = ap (λ x. x * w) (add-one (c .loop-i .i)) ∙ suc-mul (c .loop-i .i) w in (
-      fill-more (g .T·FromBitpacked .made) (page r) (c .args .batch .now) (c .args .at) (position r) w (c .loop-i .i) (c .take-value .result)
-          (c .loop-i .inv .0) (c .from-u64 .ensures)
+      fill-more (g .T·Element .made) (page r) (c .args .batch .now) (c .args .at) (position r) w (c .loop-i .i) (c .take-value .result)
+          (c .loop-i .inv .0) (c .from-pattern .ensures)
           (c .take-value .ensures .value ∙ ap₂ (λ s p. bitsAt s p w) (moved .same) (moved .to))
           (omega arith),
       moved-more r (c .loop-i .self) (c .take-value .last .self) (position r + c .loop-i .i * w) (position (c .loop-i .self) + w) (position r + (c .loop-i .i + 1) * w)
@@ -46,6 +46,6 @@ returns g c =
     let r = c .args .self .now in
     let all : c .loop-i .i ≡ c .args .count = omega arith in
     record {
-      cells = c .loop-i .inv .0 ∙ ap (λ k. overwrite (c .args .batch .now) (c .args .at) (cellsAt (g .T·FromBitpacked .made) (page r) (position r) (c .args .num-bits) k)) all;
+      cells = c .loop-i .inv .0 ∙ ap (λ k. overwrite (c .args .batch .now) (c .args .at) (cellsAt (g .T·Element .made) (page r) (position r) (c .args .num-bits) k)) all;
       moved = subst (λ k. Moved r (c .loop-i .self) (position r + k * c .args .num-bits)) all (c .loop-i .inv .1);
     }

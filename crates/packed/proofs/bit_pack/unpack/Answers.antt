@@ -17,7 +17,7 @@ unpack-groups-requires g c κs =
 
 pub returns : need.returns
 returns g c =
-    let made = g .T·FromBitpacked .made in
+    let made = g .T·Element .made in
     let s = c .args .input .now in
     let o = c .args .output .now in
     let all : 8 * (length o / 8) ≡ length o = omega arith in

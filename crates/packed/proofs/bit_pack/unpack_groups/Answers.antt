@@ -10,7 +10,7 @@ use Rattle.packed.proofs.bit_pack.unpack_groups.Needs as need
 
 pub loop-group-holds : need.loop-group-holds
 loop-group-holds g c =
-    fill-none (g .T·FromBitpacked .made) (c .args .input .now) (c .args .output .now) (c .args .at) (8 * c .args .start) (c .args .num-bits)
+    fill-none (g .T·Element .made) (c .args .input .now) (c .args .output .now) (c .args .at) (8 * c .args .start) (c .args .num-bits)
 
 pub mul-group : need.mul-group
 mul-group g c =
@@ -29,7 +29,7 @@ unpack-group-requires g c κs =
 
 pub loop-group-again : need.loop-group-again
 loop-group-again g c =
-    let made = g .T·FromBitpacked .made in
+    let made = g .T·Element .made in
     let s = c .args .input .now in
     let o = c .args .output .now in
     let w = c .args .num-bits in
@@ -47,4 +47,4 @@ pub returns : need.returns
 returns g c =
     let all : c .loop-group .group ≡ c .args .groups = omega arith in
     c .loop-group .inv
-    ∙ ap (λ n. overwrite (c .args .output .now) (c .args .at) (cellsAt (g .T·FromBitpacked .made) (c .args .input .now) (8 * c .args .start) (c .args .num-bits) (8 * n))) all
+    ∙ ap (λ n. overwrite (c .args .output .now) (c .args .at) (cellsAt (g .T·Element .made) (c .args .input .now) (8 * c .args .start) (c .args .num-bits) (8 * n))) all

@@ -4,4 +4,4 @@ use Rattle.packed.specs.Bytes.{cellsAt, overwrite}
 use Rattle.packed.proofs.bit_pack.unpack_groups.Given as given
 
 abbrev pub Inv-loop-group : given.InvT-loop-group
-Inv-loop-group g l = l .output ≡ overwrite (l .entry .output) (l .at) (cellsAt (g .T·FromBitpacked .made) (l .input) (8 * l .start) (l .num-bits) (8 * l .group))
+Inv-loop-group g l = l .output ≡ overwrite (l .entry .output) (l .at) (cellsAt (g .T·Element .made) (l .input) (8 * l .start) (l .num-bits) (8 * l .group))

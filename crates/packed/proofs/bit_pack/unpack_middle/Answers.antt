@@ -8,7 +8,7 @@ use Rattle.packed.proofs.bit_pack.unpack_middle.Needs as need
 
 pub loop-i-holds : need.loop-i-holds
 loop-i-holds g c =
-    fill-none (g .T·FromBitpacked .made) (c .args .input .now) (c .args .output .now) (c .args .at) (8 * c .args .start) (c .args .num-bits)
+    fill-none (g .T·Element .made) (c .args .input .now) (c .args .output .now) (c .args .at) (8 * c .args .start) (c .args .num-bits)
 
 pub whole-word-word-requires : need.whole-word-word-requires
 whole-word-word-requires g c κs =
@@ -23,8 +23,8 @@ loop-i-again g c =
     let s = c .args .input .now in
     let byte = c .args .start + from / 8 in
     let place : 8 * byte + from % 8 ≡ 8 * c .args .start + from = omega arith in
-    fill-more (g .T·FromBitpacked .made) s (c .args .output .now) (c .args .at) (8 * c .args .start) w (c .loop-i .i) (c .word-bits .result)
-    (c .loop-i .inv) (c .from-u64 .ensures)
+    fill-more (g .T·Element .made) s (c .args .output .now) (c .args .at) (8 * c .args .start) w (c .loop-i .i) (c .word-bits .result)
+    (c .loop-i .inv) (c .from-pattern .ensures)
     (c .word-bits .ensures
     ∙ ap (λ x. x / 2 ^ (from % 8) % 2 ^ w) (c .whole-word-word .ensures)
     ∙ bitsAt-part s (8 * byte) 64 (from % 8) w (omega arith)

@@ -8,7 +8,7 @@ use Rattle.packed.proofs.Bytes.{fill-none, fill-more}
 use Rattle.packed.proofs.bit_pack.unpack_wide.Needs as need
 
 pub loop-i-holds : need.loop-i-holds
-loop-i-holds g c = fill-none (g .T·FromBitpacked .made) (c .args .input .now) (c .args .output .now) (c .args .at) (8 * c .args .start) (c .args .num-bits)
+loop-i-holds g c = fill-none (g .T·Element .made) (c .args .input .now) (c .args .output .now) (c .args .at) (8 * c .args .start) (c .args .num-bits)
 
 pub bits-at-requires : need.bits-at-requires
 bits-at-requires g c κs =
@@ -20,7 +20,7 @@ pub loop-i-again : need.loop-i-again
 loop-i-again g c =
     let from = c .loop-i .i * c .args .num-bits in
     let place : 8 * (c .args .start + from / 8) + from % 8 ≡ 8 * c .args .start + from = omega arith in
-    fill-more (g .T·FromBitpacked .made) (c .args .input .now) (c .args .output .now) (c .args .at) (8 * c .args .start) (c .args .num-bits) (c .loop-i .i) (c .bits-at .result)
-    (c .loop-i .inv) (c .from-u64 .ensures)
+    fill-more (g .T·Element .made) (c .args .input .now) (c .args .output .now) (c .args .at) (8 * c .args .start) (c .args .num-bits) (c .loop-i .i) (c .bits-at .result)
+    (c .loop-i .inv) (c .from-pattern .ensures)
     (c .bits-at .ensures ∙ ap (λ p. bitsAt (c .args .input .now) p (c .args .num-bits)) place)
     (omega arith)

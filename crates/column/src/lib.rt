@@ -1,4 +1,15 @@
 //! Columns of integers, whatever they are coded as.
+mod head_reading;
+
+pub use head_reading::HeadReading;
+pub use head_reading::HeadReadingElement;
+pub use packed::Element;
+pub use packed::I32Element;
+pub use packed::I64Element;
+pub use packed::U8Element;
+pub use packed::U16Element;
+pub use packed::U32Element;
+pub use packed::U64Element;
 ghost use Rattle.column.specs.Refusals.{numbered};
 ghost use mathlib.Core.Path.{_≡_};
 

@@ -1,5 +1,5 @@
 -- What a page means: the values that wait in it, and how they end.
-use Rattle.std.specs.Prelude.{ℕ, List, [], ◌++◌}
+use Rattle.std.specs.Prelude.{List, [], ◌++◌, ℕ}
 use Rattle.packed.specs.declared.faults.Fault.{Fault}
 
 pub data Ending : Type 0 where

@@ -1,5 +1,5 @@
 //! What a detector head reports.
-ghost use Rattle.std.specs.Prelude.{◌≡◌, ℕ, ◌+◌, ◌*◌, ◌/◌, ◌%◌, ◌<◌};
+ghost use Rattle.std.specs.Prelude.{ℕ, ◌+◌, ◌*◌, ◌/◌, ◌%◌, ◌<◌, ◌≡◌};
 ghost use Rattle.column.specs.declared.head_reading.HeadReading.{HeadReading};
 ghost use Rattle.std.proofs.Common.{rules};
 

@@ -6,7 +6,7 @@ use Rattle.packed.specs.Bytes.{overwrite}
 use Rattle.packed.specs.Digits.{digits}
 use Rattle.packed.specs.Vlq.{vlq}
 use Rattle.packed.specs.Zigzag.{zigzag_of}
-use Rattle.packed.proofs.Overwrite.{length-overwrite, take-overwrite}
+use Rattle.packed.proofs.Overwrite.{length-overwrite, overwrite-all, take-overwrite}
 use Rattle.packed.proofs.VlqLaws.{length-vlq}
 use Rattle.bit_writer.specs.Writer.{Holds, Wrote, buffer, bytes_for, held_bytes}
 use Rattle.bit_writer.specs.declared.BitWriter.{BitWriter}
@@ -58,6 +58,11 @@ pub wrote-front : (a b : BitWriter) (bytes : List ℕ) → a.byte_offset ≡ 0 �
 wrote-front a b bytes start w =
     ap₂ take (sym (zero-add (length bytes))) (w.buffer_is ∙ ap (λ at. overwrite (buffer a) at bytes) start)
     ∙ take-overwrite (buffer a) 0 bytes zero-le
+
+-- bytes that fill a writer's buffer are all that it holds
+pub wrote-all : (a b : BitWriter) (bytes : List ℕ) → a.byte_offset ≡ 0 → a.bit_offset ≡ 0 → length bytes ≡ length (buffer a) → Wrote a b (held_bytes a ++ bytes) → buffer b ≡ bytes
+wrote-all a b bytes start none long w =
+    w.buffer_is ∙ ap₂ (overwrite (buffer a)) start (held_none a bytes none) ∙ overwrite-all (buffer a) bytes long
 
 pub wrote-long : (a b : BitWriter) (bytes : List ℕ) → a.byte_offset + length bytes ≤ length (buffer a) → Wrote a b bytes → length (buffer b) ≡ length (buffer a)
 wrote-long a b bytes room w = ap length w.buffer_is ∙ length-overwrite (buffer a) a.byte_offset bytes room

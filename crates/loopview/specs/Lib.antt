@@ -1,4 +1,3 @@
 pub mod Columns
 pub mod Fields
 pub mod Flags
-pub mod Pages

@@ -1,17 +1,13 @@
-//! The readings as three columns of bytes: a page of addresses, a page of values, and ticks by their differences.
-ghost use Rattle.std.specs.Prelude.{◌≡◌, ◌*◌, ◌≤◌, min, List, map, length, take, pos, ◌+ℤ◌, IfOk, IfErr, vec_len};
+//! The readings as three columns of bytes: addresses and values packed at one width each, and ticks by their differences.
+ghost use Rattle.std.specs.Prelude.{◌≡◌, ℕ, ◌+◌, ◌*◌, ◌^◌, ◌<◌, ◌≤◌, map, length, take, pos, ◌+ℤ◌, IfOk, IfErr, vec_len, slice_index};
 ghost use Rattle.std.specs.Int.{int_wrap, w64};
-ghost use Rattle.bit_writer.specs.Writer.{Wrote, buffer};
-ghost use Rattle.loopview.specs.Columns.{Before, Equal, Fills, MemoryOnly, Packs, Restores, declined_as, difference_of, pattern_of, ticks_of, unpacked_of, width_of};
-ghost use Rattle.loopview.specs.declared.columns.PackError.TheVariants.{Memory as PackMemory, Refused as PackRefused};
-ghost use Rattle.loopview.specs.declared.columns.PageColumn.TheVariants.{Address, Value};
+ghost use Rattle.bit_writer.specs.Writer.{Wrote, buffer, bytes_for};
+ghost use Rattle.loopview.specs.Columns.{Before, Packs, difference_of, packed_at, packed_of, pattern_of, ticks_of, unpacked_at, unpacked_of, width_of};
 ghost use Rattle.loopview.specs.declared.columns.ReadError.TheVariants.{Memory};
 
-use crate::pages::{PAGE_BYTES, read_page, write_page};
 use crate::readings::Reading;
 use crate::report::HexFront;
 use bits::{BitReader, BitWriter, Fault, FaultKind, Layer};
-use column::{Declined, PutList, Refusal};
 use std::alloc::{AllocError, AllocFailed, Global};
 use std::error::Error;
 use std::fmt;
@@ -19,37 +15,39 @@ use std::fmt;
 /// The most bytes that the difference of two ticks takes: seven bits of 64 to a byte.
 const TICK_BYTES: usize = 10;
 
-/// A column that is written as a page.
+/// A column whose values are packed at one width.
 #[derive(Clone, Copy)]
-enum PageColumn {
+enum PackedColumn {
     Address,
     Value,
 }
 
-impl PageColumn {
+impl PackedColumn {
     /// How many bits a value of the column has.
-    fn width(self) -> u32
+    fn width(self) -> usize
         ensures { result ≡ width_of self }
     {
         match self {
-            PageColumn::Address => 7,
-            PageColumn::Value => 8,
+            PackedColumn::Address => 7,
+            PackedColumn::Value => 8,
         }
     }
 
     /// What the column holds of a reading.
-    fn pattern(self, reading: &Reading) -> u8
-        ensures { result ≡ pattern_of self reading.now }
+    fn pattern(self, reading: &Reading) -> u64
+        ensures value { result ≡ pattern_of self reading.now }
+        ensures below { result < 2 ^ width_of self }
     {
         match self {
-            PageColumn::Address => reading.address(),
-            PageColumn::Value => reading.value(),
+            PackedColumn::Address => u64::from(reading.address()),
+            PackedColumn::Value => u64::from(reading.value()),
         }
     }
 
     /// The column's values, one for each reading.
-    fn patterns(self, heap: Global, readings: &[Reading]) -> Result<Vec<u8>, AllocError>
-        ensures { IfOk result (λ v. v.items ≡ map (pattern_of self) readings.now) }
+    fn patterns(self, heap: Global, readings: &[Reading]) -> Result<Vec<u64>, AllocError>
+        ensures values { IfOk result (λ v. v.items ≡ map (pattern_of self) readings.now) }
+        ensures below { IfOk result (λ v. (i : ℕ) → i < length v.items → slice_index v.items i < 2 ^ width_of self) }
     {
         let mut patterns = Vec::new(heap);
         for reading in readings {
@@ -58,33 +56,23 @@ impl PageColumn {
         Ok(patterns)
     }
 
-    /// The column's page, with as many readings as its buffer takes.
-    fn pack(self, heap: Global, readings: &[Reading]) -> Result<ColumnPage, PackError>
-        ensures page { IfOk result (λ p. Fills self p readings.now) }
-        ensures few { IfOk result (λ p. p.accepted.count ≤ length readings.now) }
-        ensures memory { IfErr result MemoryOnly }
+    /// The column's bytes.
+    fn pack(self, heap: Global, readings: &[Reading]) -> Result<Vec<u8>, AllocError>
+        ensures { IfOk result (λ v. v.items ≡ packed_of self readings.now) }
     {
         let patterns = self.patterns(heap, readings)?;
-        let mut buffer = [0; PAGE_BYTES];
-        let written = write_page(&mut buffer, self.width(), patterns.as_slice())?;
-        let bytes = written.page.to_vec(heap)?;
-        Ok(ColumnPage {
-            bytes,
-            accepted: written.accepted,
-        })
+        pack_patterns(heap, patterns.as_slice(), self.width())
     }
 
-    /// The first `count` values of a column's page.
-    fn unpack(self, heap: Global, page: &[u8], count: usize) -> Result<Vec<u8>, ReadError>
-        ensures values { IfOk result (λ v. v.items ≡ unpacked_of self count page.now) }
+    /// The first `count` values of a column that was packed into `bytes`.
+    fn unpack(self, heap: Global, bytes: &[u8], count: usize) -> Result<Vec<u8>, ReadError>
+        ensures values { IfOk result (λ v. v.items ≡ unpacked_of self count bytes.now) }
         ensures len { IfOk result (λ v. vec_len v ≡ count) }
+        ensures below { IfOk result (λ v. (i : ℕ) → i < count → slice_index v.items i < 2 ^ width_of self) }
         ensures fault { IfErr result (Before count) }
     {
-        if count == 0 {
-            return Ok(Vec::new(heap));
-        }
         let mut values = vec![in heap; 0u8; count]?;
-        let found = read_page(page, self.width(), values.as_mut_slice())?;
+        let found = unpack_into(values.as_mut_slice(), bytes, self.width());
         if found < count {
             let kind = FaultKind::TooFewValues;
             return Err(ReadError::Faulty(Fault { kind, place: found }, found));
@@ -93,11 +81,36 @@ impl PageColumn {
     }
 }
 
-/// A column's page, how many readings it holds, and why not the next.
-#[derive(Drop)]
-pub struct ColumnPage {
-    bytes: Vec<u8>,
-    accepted: PutList,
+/// Unpacks values of `num_bits` bits each into the cells, and answers how many there were.
+fn unpack_into(cells: &mut [u8], bytes: &[u8], num_bits: usize) -> usize
+    requires { num_bits ≤ 8 }
+    ensures bound { result ≤ length cells.old }
+    ensures values { result ≡ length cells.old → cells.new ≡ unpacked_at num_bits result bytes.now }
+{
+    let mut reader = BitReader::new(bytes);
+    reader.get_batch(cells, num_bits)
+}
+
+/// Packs `patterns` into `out`, which they fill.
+fn pack_into(out: &mut [u8], patterns: &[u64], num_bits: usize)
+    requires { (num_bits ≤ 64) × ((((i : ℕ) → i < length patterns.now → slice_index patterns.now i < 2 ^ num_bits)) × (length out.old ≡ bytes_for (length patterns.now * num_bits))) }
+    ensures { out.new ≡ packed_at num_bits patterns.now }
+{
+    let mut writer = BitWriter::new(out);
+    writer.put_packed(patterns, num_bits);
+}
+
+/// The bytes of `patterns`, packed at `num_bits` bits each.
+fn pack_patterns(heap: Global, patterns: &[u64], num_bits: usize) -> Result<Vec<u8>, AllocError>
+    requires { (num_bits ≤ 64) × (((i : ℕ) → i < length patterns.now → slice_index patterns.now i < 2 ^ num_bits)) }
+    ensures { IfOk result (λ v. v.items ≡ packed_at num_bits patterns.now) }
+{
+    let Some(bits) = patterns.len().checked_mul(num_bits) else {
+        return Err(AllocError);
+    };
+    let mut bytes = vec![in heap; 0u8; bits.div_ceil(8)]?;
+    pack_into(bytes.as_mut_slice(), patterns, num_bits);
+    Ok(bytes)
 }
 
 /// The difference of a tick to the tick before, which wraps in 64 bits.
@@ -176,85 +189,62 @@ fn join(
     addresses: &[u8],
     values: &[u8],
     ticks: &[i64],
-) -> Result<Vec<Reading>, ReadError>
-    requires { (length values.now ≡ length addresses.now) × (length ticks.now ≡ length addresses.now) }
-    ensures parts { IfOk result (λ v. (map (pattern_of Address) v.items ≡ addresses.now) × (map (pattern_of Value) v.items ≡ values.now)) }
-    ensures len { IfOk result (λ v. vec_len v ≡ length addresses.now) }
-    ensures fault { IfErr result (Before (length addresses.now)) }
+) -> Result<Vec<Reading>, AllocError>
+    requires { (length values.now ≡ length addresses.now) × ((length ticks.now ≡ length addresses.now) × (((i : ℕ) → i < length addresses.now → slice_index addresses.now i < 128))) }
+    ensures { IfOk result (λ v. vec_len v ≡ length addresses.now) }
 {
     let mut readings = Vec::new(heap);
     for (i, address) in addresses.iter().enumerate() {
-        // A page may repeat a byte of more bits than the column has.
-        if *address > 127 {
-            return Err(ReadError::OffLoop(*address, i));
-        }
         readings.push(Reading::new(*address, values[i], ticks[i]))?;
     }
     Ok(readings)
 }
 
-/// The bytes of the three columns, with the number of readings that both pages hold, which the bytes do not tell.
+/// The bytes of the three columns, with the number of readings, which the bytes do not tell.
 #[derive(Drop)]
 pub struct Columns {
     count: usize,
-    addresses: ColumnPage,
-    values: ColumnPage,
+    addresses: Vec<u8>,
+    values: Vec<u8>,
     ticks: Vec<u8>,
 }
 
 impl Columns {
-    /// The columns of `readings`, up to the first that a page refuses.
-    pub fn pack(heap: Global, readings: &[Reading]) -> Result<Columns, PackError>
-        ensures packs { IfOk result (λ c. Packs c readings.now) }
-        ensures memory { IfErr result MemoryOnly }
+    /// The columns of `readings`.
+    pub fn pack(heap: Global, readings: &[Reading]) -> Result<Columns, AllocError>
+        ensures { IfOk result (λ c. Packs c readings.now) }
     {
-        let addresses = PageColumn::Address.pack(heap, readings)?;
-        let values = PageColumn::Value.pack(heap, readings)?;
-        let count = addresses.accepted.count.min(values.accepted.count);
-        let ticks = pack_ticks(heap, &readings[0..count])?;
         Ok(Columns {
-            count,
-            addresses,
-            values,
-            ticks,
+            count: readings.len(),
+            addresses: PackedColumn::Address.pack(heap, readings)?,
+            values: PackedColumn::Value.pack(heap, readings)?,
+            ticks: pack_ticks(heap, readings)?,
         })
     }
 
     /// The readings that the bytes of the columns hold.
     pub fn read_back(&self, heap: Global) -> Result<Vec<Reading>, ReadError>
-        ensures back { (rs : List Reading) → Packs self.now rs → IfOk result (λ v. Restores rs v.items) }
         ensures len { IfOk result (λ v. vec_len v ≡ self.now.count) }
         ensures fault { IfErr result (Before self.now.count) }
     {
-        self.read_columns(heap)
-    }
-
-    // Reads each column, and joins them.
-    fn read_columns(&self, heap: Global) -> Result<Vec<Reading>, ReadError>
-        ensures back { (rs : List Reading) → Packs self.now rs → IfOk result (λ v. Restores rs v.items) }
-        ensures len { IfOk result (λ v. vec_len v ≡ self.now.count) }
-        ensures fault { IfErr result (Before self.now.count) }
-    {
-        let count = self.count;
-        let addresses = PageColumn::Address.unpack(heap, self.addresses.bytes.as_slice(), count)?;
-        let values = PageColumn::Value.unpack(heap, self.values.bytes.as_slice(), count)?;
-        let ticks = unpack_ticks(heap, self.ticks.as_slice(), count)?;
-        join(
+        let addresses = PackedColumn::Address.unpack(heap, self.addresses.as_slice(), self.count)?;
+        let values = PackedColumn::Value.unpack(heap, self.values.as_slice(), self.count)?;
+        let ticks = unpack_ticks(heap, self.ticks.as_slice(), self.count)?;
+        let readings = join(
             heap,
             addresses.as_slice(),
             values.as_slice(),
             ticks.as_slice(),
-        )
+        )?;
+        Ok(readings)
     }
 }
 
 impl fmt::Display for Columns {
     fn fmt<W: fmt::Write>(&self, f: &mut fmt::Formatter<W>) -> fmt::Result {
-        write_column(f, "addresses", self.addresses.bytes.as_slice())?;
-        write_column(f, "values", self.values.bytes.as_slice())?;
-        write_column(f, "ticks", self.ticks.as_slice())?;
-        write_stop(f, "addresses", self.addresses.accepted)?;
-        write_stop(f, "values", self.values.accepted)
+        write_column(f, "addresses", self.addresses.as_slice())?;
+        write_column(f, "values", self.values.as_slice())?;
+        write_column(f, "ticks", self.ticks.as_slice())
     }
 }
 
@@ -265,98 +255,13 @@ fn write_column<W: fmt::Write>(f: &mut fmt::Formatter<W>, name: &str, bytes: &[u
     writeln!(f, "{name}: {count} bytes, {front}")
 }
 
-/// Writes at which reading, counted from 1, a page ended before the readings did, and why.
-fn write_stop<W: fmt::Write>(
-    f: &mut fmt::Formatter<W>,
-    name: &str,
-    accepted: PutList,
-) -> fmt::Result {
-    let number = accepted.count.saturating_add(1);
-    match accepted.refusal {
-        None => Ok(()),
-        Some(Refusal::Full) => writeln!(
-            f,
-            "the page of {name} is full at reading {number}: it has {PAGE_BYTES} bytes"
-        ),
-        Some(refusal) => {
-            let reason = refusal_text(refusal);
-            writeln!(
-                f,
-                "the page of {name} ends before reading {number}: {reason}"
-            )
-        }
-    }
-}
-
-/// What a refusal says to a user.
-fn refusal_text(refusal: Refusal) -> &'static str {
-    match refusal {
-        Refusal::BadWidth => "a page has no values of so many bits",
-        Refusal::Full => "the page is full",
-        Refusal::PatternTooWide => "the value has too many bits",
-        Refusal::ListTooLong => "a page holds no more than 2147483647 values",
-        Refusal::NoRepeatingRun => "no value repeats",
-        Refusal::ElementTooNarrow => "the values have more bits than a byte",
-        Refusal::EmptyWindow => "a window of no cells",
-    }
-}
-
-/// Why the readings were not packed.
-#[derive(Drop)]
-pub enum PackError {
-    /// There was no memory for the columns.
-    Memory,
-    /// No page was begun.
-    Refused(Refusal),
-}
-
-impl From<AllocError> for PackError {
-    ghost from_gives = { λ _ r. r ≡ PackMemory };
-
-    fn from(_e: AllocError) -> Self {
-        PackError::Memory
-    }
-}
-
-impl From<Refusal> for PackError {
-    ghost from_gives = { λ e r. r ≡ PackRefused e };
-
-    fn from(refusal: Refusal) -> Self {
-        PackError::Refused(refusal)
-    }
-}
-
-impl fmt::Display for PackError {
-    fn fmt<W: fmt::Write>(&self, f: &mut fmt::Formatter<W>) -> fmt::Result {
-        match *self {
-            PackError::Memory => f.write_str("no memory to pack the columns"),
-            PackError::Refused(refusal) => {
-                let reason = refusal_text(refusal);
-                write!(f, "no page was begun: {reason}")
-            }
-        }
-    }
-}
-
-impl fmt::Debug for PackError {
-    fn fmt<W: fmt::Write>(&self, f: &mut fmt::Formatter<W>) -> fmt::Result {
-        write!(f, "{self}")
-    }
-}
-
-impl Error for PackError {}
-
 /// Why the readings were not read back.
 #[derive(Drop)]
 pub enum ReadError {
     /// There was no memory for the readings.
     Memory,
-    /// A page was not opened.
-    Refused(Refusal),
     /// The bytes have a fault, after this many good readings.
     Faulty(Fault, usize),
-    /// The address is not on the loop, after this many good readings.
-    OffLoop(u8, usize),
 }
 
 impl From<AllocError> for ReadError {
@@ -375,25 +280,10 @@ impl<T: Drop> From<AllocFailed<T>> for ReadError {
     }
 }
 
-impl From<Declined> for ReadError {
-    ghost from_gives = { λ d r. r ≡ declined_as d };
-
-    fn from(declined: Declined) -> Self {
-        match declined {
-            Declined::Refused(refusal) => ReadError::Refused(refusal),
-            Declined::Faulted { fault, count } => ReadError::Faulty(fault, count),
-        }
-    }
-}
-
 impl fmt::Display for ReadError {
     fn fmt<W: fmt::Write>(&self, f: &mut fmt::Formatter<W>) -> fmt::Result {
         match *self {
             ReadError::Memory => f.write_str("no memory to read the columns back"),
-            ReadError::Refused(refusal) => {
-                let reason = refusal_text(refusal);
-                write!(f, "a page was not read: {reason}")
-            }
             ReadError::Faulty(fault, good) => {
                 let number = fault.number();
                 let place = fault.place;
@@ -403,10 +293,6 @@ impl fmt::Display for ReadError {
                     "fault {number} at {place} in the {layer} layer, after {good} good readings"
                 )
             }
-            ReadError::OffLoop(address, good) => write!(
-                f,
-                "address {address} is not on the loop, after {good} good readings"
-            ),
         }
     }
 }
@@ -429,19 +315,11 @@ fn layer_name(layer: Layer) -> &'static str {
 
 /// How many readings came back as they were packed.
 pub fn count_equal(packed: &[Reading], back: &[Reading]) -> usize
-    ensures { Equal packed.now back.now (min (length packed.now) (length back.now)) result }
-{
-    count_equal_places(packed, back, packed.len().min(back.len()))
-}
-
-// At how many of the first `count` places the same reading stands.
-fn count_equal_places(packed: &[Reading], back: &[Reading], count: usize) -> usize
-    requires { (count ≤ length packed.now) × (count ≤ length back.now) }
-    ensures { Equal packed.now back.now count result }
+    ensures { result ≤ length packed.now }
 {
     let mut equal = 0;
-    for i in 0..count {
-        if packed[i] == back[i] {
+    for (before, after) in packed.iter().zip(back.iter()) {
+        if *before == *after {
             equal += 1;
         }
     }

@@ -3,7 +3,6 @@ ghost use Rattle.std.specs.Prelude.{◌≡◌, IfSome, Some};
 ghost use Rattle.loopview.specs.Flags.{spelling};
 
 mod columns;
-mod pages;
 mod readings;
 mod report;
 
@@ -21,13 +20,10 @@ the input is one reading:
   address,value,tick    address 0 to 127, value 0 to 255, tick in milliseconds
 Blank lines and lines that begin with # are skipped.
 
-The columns are a page of the addresses, at 7 bits each, and a page of the
-values, at 8 bits each, both in the RLE/bit-packed hybrid, and each tick's
-difference to the tick before it as a zigzag VLQ. A page is written into a
-buffer of 1024 bytes. It prints how many bytes each column takes and the first
-of them in hexadecimal, and at which reading a page is full, if one is: it goes
-on with the readings before that. Then come the table of the readings as they
-were read back, and how many of all readings are equal.
+The columns are the addresses at 7 bits each, the values at 8 bits each, and
+each tick's difference to the tick before it as a zigzag VLQ. It prints how
+many bytes each column takes and the first of them in hexadecimal, then the
+table of the readings as they were read back, and how many are equal.
 
   --all     show every row of the table, and not only its first and last ones
   --help    print this text

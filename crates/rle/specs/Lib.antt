@@ -1,1 +1,6 @@
-pub mod Coding
+pub mod Found
+pub mod Hybrid
+pub mod Lenient
+pub mod Reading
+pub mod Runs
+pub mod Theorems

@@ -1,58 +1,33 @@
-//! The RLE/bit-packed hybrid as a coding of columns.
-ghost use Rattle.column.specs.Putting.{Checking, unmade};
-ghost use Rattle.column.specs.Trips.{Lawful, ReturnTrip, Returned};
-ghost use Rattle.column.specs.Working.{Worked, accepted_from, asks_of, cells_after, if_made, kind_of, puts_answered, takes_answered, waiting_for};
-ghost use Rattle.hybrid.specs.Runs.{page};
-ghost use Rattle.rle.specs.Coding.{allows, need, reads_as};
-ghost use Rattle.std.specs.Prelude.{◌≡◌, [], length, None};
+//! The RLE/bit-packed hybrid: what its pages are, what is proved of them, and how a run is read.
+//!
+//! The functions of this file are theorems: each stands in its function's contract, over every width, list and page.
+mod runs;
 
-use column::{Coding, Declined, Element, Put, Refusal, Take, work_page};
-pub use rle_decoder::RleDecoder;
-pub use rle_encoder::{RleEncoder, RlePages, RlePass};
+ghost use Rattle.rle.specs.Theorems.{ReadStands, StandingIsRead, WrittenIsRead, WrittenIsShort, WrittenStands};
 
-/// The coding of columns as RLE/bit-packed hybrid pages, of 0 to 64 bits a value.
-pub struct Rle;
+pub use runs::{Found, run_at};
 
-impl<'a> Coding<'a> for Rle {
-    type Code = RlePages;
+/// A written page stands, in the public format, for its list and at most seven zeros behind it.
+pub fn written_page_stands()
+    ensures { WrittenStands }
+{}
 
-    type Permit = RlePass;
+/// Whatever stands in the public format is read as its values and then the end, and is not refused.
+pub fn standing_page_is_read()
+    ensures { StandingIsRead }
+{}
 
-    type Enc = RleEncoder<'a>;
+/// A written page is read as its list, at most seven zeros behind it, and the end.
+pub fn written_page_is_read()
+    ensures { WrittenIsRead }
+{}
 
-    type Dec = RleDecoder<'a>;
+/// What is read without a fault stands in the public format, but for the named leniencies.
+pub fn read_page_stands()
+    ensures { ReadStands }
+{}
 
-    fn check(out: &[u8], width: u32) -> Result<RlePass, Refusal>
-        ensures { Checking (λ (p : RlePass). p.width) (λ p. p.room) (allows width) (need width []) width (length out.now) result }
-    {
-        RleEncoder::check(out, width)
-    }
-
-    fn make(pass: RlePass, out: &'a mut [u8]) -> RleEncoder<'a> {
-        RleEncoder::new(pass, out)
-    }
-
-    fn open(page: &'a [u8], width: u32, count: usize) -> Result<RleDecoder<'a>, Declined> {
-        RleDecoder::open(page, width, count)
-    }
-}
-
-/// Works a page of the hybrid by one call: see `column::work_page`, of which this is the instance.
-pub fn work_rle_page<'a, P: Element, E: Element>(
-    width: u32,
-    out: &'a mut [u8],
-    values: &[P],
-    puts: &mut [Put<P>],
-    cells: &mut [E],
-    takes: &mut [Take<E>],
-) -> Result<(usize, &'a [u8]), Declined>
-    ensures page { Worked (λ x. x.now) (unmade (allows width) (need width []) (length out.old)) (page width (accepted_from need width (length out.old) (kind_of P.Element.bits P.Element.pattern P.Element.made) P.Element.pattern values.now puts.old)) (length out.old) result }
-    ensures puts { puts.new ≡ if_made (unmade (allows width) (need width []) (length out.old)) (puts_answered (kind_of P.Element.bits P.Element.pattern P.Element.made) P.Element.pattern values.now (need width) width (length out.old) [] puts.old) puts.old }
-    ensures takes { takes.new ≡ if_made (unmade (allows width) (need width []) (length out.old)) (takes_answered (kind_of E.Element.bits E.Element.pattern E.Element.made) E.Element.made width (length cells.old) (waiting_for page reads_as width (accepted_from need width (length out.old) (kind_of P.Element.bits P.Element.pattern P.Element.made) P.Element.pattern values.now puts.old)) takes.old) takes.old }
-    ensures cells { cells.new ≡ if_made (unmade (allows width) (need width []) (length out.old)) (cells_after (kind_of E.Element.bits E.Element.pattern E.Element.made) E.Element.made width (length cells.old) (waiting_for page reads_as width (accepted_from need width (length out.old) (kind_of P.Element.bits P.Element.pattern P.Element.made) P.Element.pattern values.now puts.old)) cells.old takes.old) cells.old }
-    ensures returned { (unmade (allows width) (need width []) (length out.old)) ≡ None → Returned page reads_as width (length out.old) (accepted_from need width (length out.old) (kind_of P.Element.bits P.Element.pattern P.Element.made) P.Element.pattern values.now puts.old) (asks_of (kind_of E.Element.bits E.Element.pattern E.Element.made) E.Element.made (length cells.old) takes.old) }
-    ensures lawful { (Lawful (kind_of P.Element.bits P.Element.pattern P.Element.made)) × (Lawful (kind_of E.Element.bits E.Element.pattern E.Element.made)) }
-    ensures trip { ReturnTrip allows page need reads_as }
-{
-    work_page::<Rle, P, E>(width, out, values, puts, cells, takes)
-}
+/// A page takes at most nine bytes for each value, and 63.
+pub fn written_page_is_short()
+    ensures { WrittenIsShort }
+{}

@@ -1,6 +1,0 @@
-pub mod Found
-pub mod Hybrid
-pub mod Lenient
-pub mod Reading
-pub mod Runs
-pub mod Writing

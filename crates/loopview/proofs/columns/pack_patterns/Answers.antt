@@ -1,0 +1,7 @@
+use Rattle.std.proofs.Common.{◌∙◌, arith}
+use Rattle.std.proofs.lemmas.List.{with_items_is}
+use Rattle.loopview.proofs.columns.pack_patterns.Goals as goal
+
+-- the vector holds what was packed into its slice
+pub returns : goal.returns
+returns c = with_items_is c.in-ok-bytes.bytes c.pack-into.new.out (omega arith) ∙ c.pack-into.ensures

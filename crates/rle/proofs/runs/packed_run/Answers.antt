@@ -1,0 +1,45 @@
+use Rattle.std.proofs.Common.{◌≡◌, ◌+◌, ◌-◌, ◌*◌, ◌/◌, ◌<◌, ◌≤◌, min, ltb, length, sym, refl, ap, ◌∙◌, ap₂, mul_assoc, mul-le-mul, arith}
+use Rattle.std.proofs.lemmas.Bool.{lt-ltb, le-ltb, cond-true, cond-false}
+use Rattle.bit_reader.specs.Reader.{readable}
+use Rattle.bit_reader.proofs.Reading.{all_fit, some_fit, counted}
+use Rattle.rle.specs.Reading.{packed_at, packs}
+use Rattle.rle.proofs.runs.packed_run.Goals as goal
+
+pub returns-then-groups-gt-MAX-GROUPS : goal.returns-then-groups-gt-MAX-GROUPS
+unfolding packed_at
+returns-then-groups-gt-MAX-GROUPS c = sym (cond-true (ltb 2147483647 (8 * c.args.groups)) _ _ (lt-ltb 2147483647 (8 * c.args.groups) (omega arith)))
+
+pub returns-then-left-groups : goal.returns-then-left-groups
+unfolding packed_at
+returns-then-left-groups c =
+    let s = c.args.page.now in
+    let g = c.args.groups in
+    let w = c.args.width in
+    let start = c.args.start in
+    let bits : 8 * g * w ≡ 8 * (g * w) = mul_assoc 8 g w in
+    let all : 8 * g ≡ readable s (8 * start) w (8 * g) =
+    (counted s (8 * start) w (8 * g) (8 * g) (8 * length s - 8 * start) (omega arith) refl (all_fit (8 * length s - 8 * start) w (8 * g) (omega arith))).count in
+    let next : start + g * w ≡ min (start + g * w) (length s) = omega arith in
+    ap₂ (λ m n. packs m start n) all next ∙ sym (cond-false (ltb 2147483647 (8 * g)) _ _ (le-ltb 2147483647 (8 * g) (omega arith)))
+
+pub overflow-mul-result-2 : goal.overflow-mul-result-2
+overflow-mul-result-2 c =
+    let groups : c.args.groups ≤ 268435455 = omega arith in
+    let most : c.args.groups * c.args.width ≤ 268435455 * 64 = mul-le-mul groups c.requires.0 in
+    record { fits = omega arith }
+
+pub returns : goal.returns
+unfolding packed_at
+returns c =
+    let s = c.args.page.now in
+    let g = c.args.groups in
+    let w = c.args.width in
+    let start = c.args.start in
+    let bits : 8 * g * w ≡ 8 * (g * w) = mul_assoc 8 g w in
+    let space = 8 * length s - 8 * start in
+    let fewer : space < 8 * g * w = omega arith in
+    let same : 8 * (length s - start) ≡ space = omega arith in
+    let count : 8 * (length s - start) / w ≡ readable s (8 * start) w (8 * g) =
+    ap (λ x. x / w) same ∙ (counted s (8 * start) w (8 * g) (space / w) space (omega arith) refl (some_fit space w (8 * g) fewer)).count in
+    let next : length s ≡ min (start + g * w) (length s) = omega arith in
+    ap₂ (λ m n. packs m start n) count next ∙ sym (cond-false (ltb 2147483647 (8 * g)) _ _ (le-ltb 2147483647 (8 * g) (omega arith)))

@@ -1,6 +1,0 @@
-mod Answering
-mod First
-mod Loading
-mod Opened
-mod Passing
-mod Turns

@@ -1,5 +1,0 @@
-pub mod Added
-pub mod Closed
-pub mod Keeping
-pub mod Lengths
-pub mod Steps

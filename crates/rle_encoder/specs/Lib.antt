@@ -1,4 +1,0 @@
-pub mod Encoder
-pub mod Encoding
-pub mod Extending
-pub mod Finishing

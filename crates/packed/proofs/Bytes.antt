@@ -1,13 +1,12 @@
 -- The laws of bits in bytes: where a field lies, how fields are cut and joined.
-use Rattle.std.proofs.Common.{◌≡◌, ℕ, zero, suc, ◌+◌, ◌-◌, ◌*◌, ◌/◌, ◌%◌, ◌^◌, ◌<◌, ◌≤◌, List, [], ◌∷◌, ◌++◌, length, get_or, take, drop, set, sym, refl, ap, ◌∙◌, subst, ap₂, zero-le, lt_of_lt_of_le, le_of_suc-le-suc, not-suc-le-zero, add-zero, add_assoc, mul-le-mul_right, mod-lt, mod-eq_of_lt, mul_assoc, suc-mul, mul_comm, add_comm, suc-add, pow-suc, mul-zero, zero-add, zero-mul, mul-one, mul-suc, div-one, mul-div_cancel, add-one, arith, lit<, lit≤, length-drop, drop-cons, pow_pos, pow_mono, pow-add, shr-shr}
-use lib.Arith.{digits_div, digits_mod}
+use Rattle.std.proofs.Common.{◌≡◌, ℕ, zero, suc, ◌+◌, ◌-◌, ◌*◌, ◌/◌, ◌%◌, ◌^◌, ◌<◌, ◌≤◌, List, [], ◌∷◌, ◌++◌, length, get_or, drop, set, sym, refl, ap, ◌∙◌, subst, ap₂, zero-le, lt_of_lt_of_le, le_of_suc-le-suc, not-suc-le-zero, add-zero, add_assoc, mul-le-mul_right, mod-lt, mod-eq_of_lt, mul_assoc, suc-mul, mul_comm, add_comm, suc-add, pow-suc, mul-zero, zero-add, zero-mul, mul-suc, div-one, mul-div_cancel, add-one, arith, lit<, lit≤, length-drop, pow_pos, pow_mono, pow-add, shr-shr}
 use lib.Pow.{field, mod-mod-pow, mod-pow-add}
 use native.Mathlib.Nat.{pow-zero, mod-mod, div-eq_of_lt, pow-le-pow_right, mul-mod_left, add-mul-mod_self_left}
 use Rattle.std.proofs.lemmas.List.{drop_more}
 use Rattle.packed.specs.Digits.{number, digits}
 use Rattle.packed.specs.Bytes.{bits_at, cells_at, overwrite}
 use Rattle.packed.proofs.Overwrite.{drop-overwrite, overwrite-none, overwrite-push, overwrite-overwrite}
-use Rattle.packed.proofs.Digits.{number-mod, number-drop, number-take, number-below, number_append, number-digit, number_digits, length_digits}
+use Rattle.packed.proofs.Digits.{number-mod, number-drop, number-below, number_append, number-digit, number_digits, length_digits}
 
 -- k digits of j bits each are j k bits
 pub power-bits : (j k : ℕ) → (2 ^ j) ^ k ≡ 2 ^ (j * k)

@@ -1,7 +1,7 @@
 -- The laws of digits: a number and its digits determine each other.
-use Rattle.std.proofs.Common.{◌≡◌, ℕ, zero, suc, ◌+◌, ◌*◌, ◌/◌, ◌%◌, ◌^◌, ◌<◌, ◌≤◌, List, [], ◌∷◌, ◌++◌, length, get_or, take, drop, sym, refl, ap, ◌∙◌, ap₂, suc-le-suc, zero-le, le_of_suc-le-suc, not-suc-le-zero, add-zero, add_assoc, mod-lt, mod-eq_of_lt, mul_assoc, mul_comm, add-mul, add_comm, suc-add, mul-pos, one-mul, pow-suc, mul-zero, div-add-mod', zero-add, mul-one, mul-add, div-one, arith}
+use Rattle.std.proofs.Common.{◌≡◌, ℕ, zero, suc, ◌+◌, ◌*◌, ◌/◌, ◌%◌, ◌^◌, ◌<◌, List, [], ◌∷◌, ◌++◌, length, get_or, take, drop, sym, refl, ap, ◌∙◌, ap₂, suc-le-suc, zero-le, le_of_suc-le-suc, not-suc-le-zero, add-zero, add_assoc, mod-lt, mod-eq_of_lt, mul_assoc, mul_comm, add_comm, suc-add, mul-pos, one-mul, pow-suc, mul-zero, zero-add, mul-add, div-one, arith}
 use lib.Arith.{digits_div, digits_mod, digits_lt, mod-mul}
-use native.Mathlib.Nat.{pow-zero, pow-succ', mod-one, mod-mod, div-div-eq-div-mul, div-eq_of_lt, zero-mod, zero-div}
+use native.Mathlib.Nat.{pow-zero, pow-succ', mod-one, mod-mod, div-div-eq-div-mul, div-eq_of_lt}
 use Rattle.std.specs.List.{AllByRecursion as All}
 use Rattle.std.proofs.lemmas.List.{drop_more, length-take-le, take_more}
 use Rattle.packed.specs.Digits.{number, digits}

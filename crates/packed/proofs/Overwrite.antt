@@ -1,6 +1,5 @@
 -- The laws of writing over a part of a list.
-use Rattle.std.proofs.Common.{◌≡◌, ℕ, zero, suc, ◌+◌, ◌-◌, ◌<◌, ◌≤◌, min, List, [], ◌∷◌, ◌++◌, length, get_or, take, drop, set, sym, refl, ap, ◌∙◌, ap₂, append_assoc, append-nil, le-add_right, add-zero, add_assoc, add-suc, suc-add, add-one, one-add, arith, length-append, length-drop, length-set, take-append-drop, length-take, length-take-le, take-take, drop-drop, take-suc-set, take_at, drop-set-lt, drop_at}
-use lib.Seq.{set_split, take-append-le}
+use Rattle.std.proofs.Common.{◌≡◌, ℕ, suc, ◌+◌, ◌-◌, ◌<◌, ◌≤◌, min, List, [], ◌∷◌, ◌++◌, length, take, drop, set, sym, ap, ◌∙◌, ap₂, append_assoc, append-nil, add-zero, add_assoc, add-one, one-add, arith, length-append, length-drop, take-append-drop, length-take, length-take-le, drop-drop, take-suc-set, take_at, drop-set-lt, drop_at}
 use Rattle.packed.specs.Bytes.{overwrite}
 use Rattle.std.proofs.lemmas.List.{drop_all}
 

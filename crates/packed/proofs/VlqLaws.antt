@@ -1,6 +1,6 @@
 -- The laws of VLQ: a step of writing, a step of reading, and that each undoes the other.
-use Rattle.std.proofs.Common.{◌≡◌, ℕ, zero, suc, ◌+◌, ◌-◌, ◌*◌, ◌/◌, ◌%◌, ◌^◌, ◌<◌, ◌≤◌, true, false, cond, ltb, ◌⊎◌, List, [], ◌∷◌, ◌++◌, length, get_or, take, drop, Ok, Result, sym, refl, ap, ◌∙◌, subst, ap₂, inl, inr, ⊎_elim, suc-le-suc, zero-le, le_trans, le_refl, lt_of_lt_of_le, not-suc-le-zero, add-zero, add_assoc, zero-lt-suc, mul_comm, div-lt_iff_lt-mul, pow-suc, mul-zero, zero-add, mul-suc, add-one, arith, lit<, lit≤, pow_mono}
-use native.Mathlib.Nat.{div-lt_self, pow-le-pow_right}
+use Rattle.std.proofs.Common.{◌≡◌, ℕ, zero, suc, ◌+◌, ◌*◌, ◌/◌, ◌%◌, ◌^◌, ◌<◌, ◌≤◌, ◌⊎◌, List, [], ◌∷◌, ◌++◌, length, get_or, take, drop, Ok, Result, sym, refl, ap, ◌∙◌, subst, ap₂, inl, inr, ⊎_elim, suc-le-suc, zero-le, le_refl, lt_of_lt_of_le, not-suc-le-zero, add-zero, add_assoc, div-lt_iff_lt-mul, pow-suc, zero-add, add-one, arith, lit<, lit≤, pow_mono}
+use native.Mathlib.Nat.{pow-le-pow_right}
 use Rattle.packed.specs.Digits.{number}
 use Rattle.packed.specs.Bytes.{overwrite}
 use Rattle.packed.specs.Vlq.{vlq_by, vlq, continuing, read_vlq, fault, SoFar}
@@ -8,10 +8,10 @@ use Rattle.packed.specs.declared.faults.FaultKind.TheVariants.{VlqTooLarge, Data
 use Rattle.packed.proofs.Bytes.{power-bits}
 use Rattle.packed.proofs.Digits.{number_push, number-below}
 use Rattle.std.proofs.lemmas.Nat.{shl_whole}
-use Rattle.std.proofs.lemmas.List.{append_assoc, drop_at, take_at, length-append, length-drop, length-take, get_or-drop, length-take-le, drop_more, drop_all, take_more}
+use Rattle.std.proofs.lemmas.List.{append_assoc, drop_at, take_at, length-append, length-drop, length-take, get_or-drop, length-take-le, drop_more, drop_all}
 use Rattle.packed.specs.declared.faults.Fault.{Fault}
 use Rattle.packed.specs.declared.faults.FaultKind.{FaultKind}
-use Rattle.std.proofs.lemmas.Bool.{lt-ltb, le-ltb, ltb-true, ltb-false, cases_lt}
+use Rattle.std.proofs.lemmas.Bool.{lt-ltb, le-ltb, cases_lt}
 
 -- ---- writing
 

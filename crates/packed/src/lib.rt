@@ -2,6 +2,8 @@
 //! reading can meet.
 //!
 //! These are inner functions: the calls above them make every check, so they may have a `requires`.
+#![tactic(auto)]
+
 mod bit_pack;
 mod element;
 mod faults;

@@ -9,5 +9,5 @@ returns c =
     record {
       lent = refl;
       joins = λ before front w.
-          wrote-more before c.args.self.now _ front (digits 256 c.args.count c.args.v) w (omega arith) c.store-bytes.ensures (ap (λ k. c.args.self.now.byte_offset + k) (sym (length_digits 256 c.args.count c.args.v))) refl refl;
+          wrote-more before c.args.self.now _ front (digits 256 c.args.count c.args.v) w (omega arith) c.store_bytes.ensures (ap (λ k. c.args.self.now.byte_offset + k) (sym (length_digits 256 c.args.count c.args.v))) refl refl;
     }

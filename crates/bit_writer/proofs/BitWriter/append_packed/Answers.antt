@@ -11,15 +11,15 @@ pub loop-v-init : goal.loop-v-init
 unfolding number
 loop-v-init c =
     let w = c.args.self.now in (
-      subst (PutBits w w 0) (sym (zero-mul c.args.num-bits)) (put-none w c.requires.0 c.requires.1.0),
+      subst (PutBits w w 0) (sym (zero-mul c.args.num_bits)) (put-none w c.requires.0 c.requires.1.0),
       record { count = omega (arith, c.requires.1.0); value = subst (λ x. w.buffered_values < 2 ^ x) (sym c.requires.1.0) (subst (λ x. x < 1) (sym c.requires.0) (lit< tt)) },
       refl,
       refl,
     )
 
-pub put-value-requires : goal.put-value-requires
-put-value-requires c =
-    let w = c.args.num-bits in
+pub put_value-requires : goal.put_value-requires
+put_value-requires c =
+    let w = c.args.num_bits in
     let i = c.loop-v.v-index in
     let p = c.loop-v.invariant.0 in
     let some : suc i * w ≤ length c.args.values.now * w = mul-le-mul_right w (omega arith) in (
@@ -36,18 +36,18 @@ put-value-requires c =
 pub loop-v-preserved : goal.loop-v-preserved
 loop-v-preserved c =
     let i = c.loop-v.v-index in (
-      put-value-more c.args.self.now c.loop-v.self c.put-value.new.self c.args.values.now i c.args.num-bits
-          c.loop-v.invariant.0 (omega arith) (omega arith) (c.requires.1.1.1.0 i (omega arith)) c.put-value.ensures.bits,
-      c.put-value.ensures.holds,
-      c.put-value.ensures.lent ∙ c.loop-v.invariant.2,
-      c.put-value.ensures.room ∙ c.loop-v.invariant.3,
+      put-value-more c.args.self.now c.loop-v.self c.put_value.new.self c.args.values.now i c.args.num_bits
+          c.loop-v.invariant.0 (omega arith) (omega arith) (c.requires.1.1.1.0 i (omega arith)) c.put_value.ensures.bits,
+      c.put_value.ensures.holds,
+      c.put_value.ensures.lent ∙ c.loop-v.invariant.2,
+      c.put_value.ensures.room ∙ c.loop-v.invariant.3,
     )
 
 pub returns : goal.returns
 returns c =
     let e = c.args.self.now in
     let vs = c.args.values.now in
-    let w = c.args.num-bits in
+    let w = c.args.num_bits in
     let bytes = digits 256 (bytes_for (length vs * w)) (number (2 ^ w) vs) in
     let all : c.loop-v.v-index ≡ length vs = omega arith in
     let taken : take c.loop-v.v-index vs ≡ vs = take_all c.loop-v.v-index vs (omega arith) in

@@ -5,7 +5,7 @@ use Rattle.bit_writer.proofs.BitWriter.append_packed.Given as goal
 
 abbrev pub invariant-loop-v : goal.invariant-loop-v
 invariant-loop-v l =
-    PutBits l.initial.self l.self (number (2 ^ l.num-bits) (take l.v-index l.values)) (l.v-index * l.num-bits)
+    PutBits l.initial.self l.self (number (2 ^ l.num_bits) (take l.v-index l.values)) (l.v-index * l.num_bits)
     × Holds l.self
     × (l.self.out.ghost_name ≡ l.initial.self.out.ghost_name)
     × (length (buffer l.self) ≡ length (buffer l.initial.self))

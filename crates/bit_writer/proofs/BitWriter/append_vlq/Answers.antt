@@ -8,5 +8,5 @@ returns c =
     record {
       lent = refl;
       joins = λ before front w.
-          wrote-more before c.args.self.now _ front (vlq c.args.v) w (omega arith) c.write-vlq-taken.ensures.bytes (ap (λ k. c.args.self.now.byte_offset + k) c.write-vlq-taken.ensures.taken) refl refl;
+          wrote-more before c.args.self.now _ front (vlq c.args.v) w (omega arith) c.write_vlq-taken.ensures.bytes (ap (λ k. c.args.self.now.byte_offset + k) c.write_vlq-taken.ensures.taken) refl refl;
     }

@@ -8,5 +8,5 @@ returns c =
     record {
       lent = refl;
       joins = λ before front w.
-          wrote-more before c.args.self.now _ front (replicate c.args.count 0) w (omega arith) c.store-zeros.ensures (ap (λ k. c.args.self.now.byte_offset + k) (sym (length-replicate c.args.count 0))) refl refl;
+          wrote-more before c.args.self.now _ front (replicate c.args.count 0) w (omega arith) c.store_zeros.ensures (ap (λ k. c.args.self.now.byte_offset + k) (sym (length-replicate c.args.count 0))) refl refl;
     }

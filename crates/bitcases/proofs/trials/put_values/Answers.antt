@@ -3,15 +3,15 @@ use Rattle.std.proofs.Common.{suc, ◌*◌, ◌≤◌, length, suc-mul, mul-le-m
 use Rattle.bitcases.proofs.trials.put_values.Goals as goal
 
 -- The values take no more bits than as many of 64 do.
-pub put-value-requires-in-loop-v : goal.put-value-requires-in-loop-v
-put-value-requires-in-loop-v c =
+pub put_value-requires-in-loop-v : goal.put_value-requires-in-loop-v
+put_value-requires-in-loop-v c =
     let w = c.args.layout.width in
     let i = c.loop-v.v-index in
     let most : suc i * w ≤ suc i * 64 = mul-le-mul_left (suc i) (omega arith) in
     (c.loop-v.invariant.0, (c.args.layout.narrow, (true-ltb _ _ c.if-not-fits.ensures, omega (arith, suc-mul i w))))
 
-pub bytes-written-written-requires : goal.bytes-written-written-requires
-bytes-written-written-requires c =
+pub bytes_written-written-requires : goal.bytes_written-written-requires
+bytes_written-written-requires c =
     let i = c.loop-v.v-index in
     let most : i * c.args.layout.width ≤ i * 64 = mul-le-mul_left i (omega arith) in
     (c.loop-v.invariant.0, omega arith)

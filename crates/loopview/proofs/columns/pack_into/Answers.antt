@@ -9,9 +9,9 @@ use Rattle.loopview.proofs.columns.pack_into.Goals as goal
 pub returns : goal.returns
 returns c =
     let w = c.new-writer.result in
-    let bytes = packed_at c.args.num-bits c.args.patterns.now in
+    let bytes = packed_at c.args.num_bits c.args.patterns.now in
     let long : length (buffer w) ≡ length c.args.out.now = ap length c.new-writer.ensures.same in
-    let filled : buffer c.put-packed.new.self ≡ bytes =
-    wrote-all w c.put-packed.new.self bytes c.new-writer.ensures.place c.new-writer.ensures.count (length_digits 256 _ _ ∙ sym (long ∙ c.requires.1.1)) c.put-packed.ensures.bytes in
-    let lent = c.put-packed.ensures.lent ∙ c.new-writer.ensures.lent in
+    let filled : buffer c.put_packed.new.self ≡ bytes =
+    wrote-all w c.put_packed.new.self bytes c.new-writer.ensures.place c.new-writer.ensures.count (length_digits 256 _ _ ∙ sym (long ∙ c.requires.1.1)) c.put_packed.ensures.bytes in
+    let lent = c.put_packed.ensures.lent ∙ c.new-writer.ensures.lent in
     search rules

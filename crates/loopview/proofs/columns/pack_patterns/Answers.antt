@@ -4,4 +4,4 @@ use Rattle.loopview.proofs.columns.pack_patterns.Goals as goal
 
 -- the vector holds what was packed into its slice
 pub returns : goal.returns
-returns c = with_items_is c.in-ok-bytes.bytes c.pack-into.new.out (omega arith) ∙ c.pack-into.ensures
+returns c = with_items_is c.in_ok-bytes.bytes c.pack_into.new.out (omega arith) ∙ c.pack_into.ensures

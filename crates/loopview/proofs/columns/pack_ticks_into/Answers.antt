@@ -4,24 +4,24 @@ use Rattle.loopview.specs.Columns.{ticks_of}
 use Rattle.loopview.proofs.Ticks.{holds-none, wrote-front, wrote-long}
 use Rattle.loopview.proofs.columns.pack_ticks_into.Goals as goal
 
-pub bytes-written-requires : goal.bytes-written-requires
-bytes-written-requires c =
+pub bytes_written-requires : goal.bytes_written-requires
+bytes_written-requires c =
     let w = c.new-writer.result in
-    let wrote = c.put-ticks.ensures.bytes in
+    let wrote = c.put_ticks.ensures.bytes in
     let bytes = ticks_of (pos 0) c.args.readings.now in
-    let long : length (buffer c.put-ticks.new.writer) ≡ length (buffer w) =
-    wrote-long w c.put-ticks.new.writer bytes (omega (arith, c.new-writer.ensures.place, c.put-ticks.ensures.room)) wrote in (
-      holds-none c.put-ticks.new.writer wrote.held wrote.count,
-      omega (arith, wrote.place, wrote.count, c.new-writer.ensures.place, c.put-ticks.ensures.room),
+    let long : length (buffer c.put_ticks.new.writer) ≡ length (buffer w) =
+    wrote-long w c.put_ticks.new.writer bytes (omega (arith, c.new-writer.ensures.place, c.put_ticks.ensures.room)) wrote in (
+      holds-none c.put_ticks.new.writer wrote.held wrote.count,
+      omega (arith, wrote.place, wrote.count, c.new-writer.ensures.place, c.put_ticks.ensures.room),
     )
 
 pub returns : goal.returns
 returns c =
     let w = c.new-writer.result in
-    let wrote = c.put-ticks.ensures.bytes in
+    let wrote = c.put_ticks.ensures.bytes in
     let bytes = ticks_of (pos 0) c.args.readings.now in
-    let used : c.bytes-written.result ≡ length bytes = omega (arith, c.bytes-written.ensures, wrote.place, wrote.count, c.new-writer.ensures.place) in
-    let front : take c.bytes-written.result (buffer c.put-ticks.new.writer) ≡ bytes =
-    ap (λ k. take k (buffer c.put-ticks.new.writer)) used ∙ wrote-front w c.put-ticks.new.writer bytes c.new-writer.ensures.place wrote in
-    let lent = c.put-ticks.ensures.lent ∙ c.new-writer.ensures.lent in
+    let used : c.bytes_written.result ≡ length bytes = omega (arith, c.bytes_written.ensures, wrote.place, wrote.count, c.new-writer.ensures.place) in
+    let front : take c.bytes_written.result (buffer c.put_ticks.new.writer) ≡ bytes =
+    ap (λ k. take k (buffer c.put_ticks.new.writer)) used ∙ wrote-front w c.put_ticks.new.writer bytes c.new-writer.ensures.place wrote in
+    let lent = c.put_ticks.ensures.lent ∙ c.new-writer.ensures.lent in
     search rules

@@ -25,10 +25,10 @@ loop-reading-init c =
       refl,
     )
 
-pub put-zigzag-vlq-int-requires : goal.put-zigzag-vlq-int-requires
-put-zigzag-vlq-int-requires c =
+pub put_zigzag_vlq_int-requires : goal.put_zigzag_vlq_int-requires
+put_zigzag_vlq_int-requires c =
     let wrote = c.loop-reading.invariant.0 in
-    let fits : SFits w64 c.difference.result = record { sfits = c.difference.type-inv } in
+    let fits : SFits w64 c.difference.result = record { sfits = c.difference.type_inv } in
     let short : length (vlq (zigzag_of (to_z w64 (of_z w64 c.difference.result)))) ≤ 10 =
     subst (λ z. length (vlq (zigzag_of z)) ≤ 10) (sym (to_z-of_z w64 c.difference.result fits)) (difference-short c.difference.result fits) in (
       holds-none c.loop-reading.writer wrote.held wrote.count,
@@ -42,15 +42,15 @@ loop-reading-preserved c =
     let r = c.reading-item.result in
     let start = c.args.writer.now in
     let w = c.loop-reading.writer in
-    let after = c.put-zigzag-vlq-int.new.self in
+    let after = c.put_zigzag_vlq_int.new.self in
     let front = ticks_of (pos 0) (take i rs) in
     let d = c.difference.result in
-    let fits : SFits w64 d = record { sfits = c.difference.type-inv } in
-    let tick : to_z w64 (of_z w64 c.tick-tick.result) ≡ r.tick = to_z-of_z w64 c.tick-tick.result (record { sfits = c.tick-tick.type-inv }) ∙ c.tick-tick.ensures in
+    let fits : SFits w64 d = record { sfits = c.difference.type_inv } in
+    let tick : to_z w64 (of_z w64 c.tick-tick.result) ≡ r.tick = to_z-of_z w64 c.tick-tick.result (record { sfits = c.tick-tick.type_inv }) ∙ c.tick-tick.ensures in
     let value : to_z w64 (of_z w64 d) ≡ difference_of (last_tick (pos 0) (take i rs)) r.tick =
     to_z-of_z w64 d fits ∙ c.difference.ensures ∙ ap₂ difference_of c.loop-reading.invariant.2 tick in
     let more = vlq (zigzag_of (difference_of (last_tick (pos 0) (take i rs)) r.tick)) in
-    let put : Wrote w after (held_bytes w ++ more) = subst (λ z. Wrote w after (held_bytes w ++ vlq (zigzag_of z))) value c.put-zigzag-vlq-int.ensures.bytes in
+    let put : Wrote w after (held_bytes w ++ more) = subst (λ z. Wrote w after (held_bytes w ++ vlq (zigzag_of z))) value c.put_zigzag_vlq_int.ensures.bytes in
     let room : w.byte_offset ≤ length (buffer w) = omega (arith, c.loop-reading.invariant.0.place, c.loop-reading.invariant.1, c.loop-reading.invariant.4, c.requires.0, c.requires.1.1.1) in
     let next : take (i + 1) rs ≡ take i rs ++ r ∷ [] = take_more rs i r (omega arith) ∙ ap (λ x. take i rs ++ x ∷ []) (sym c.reading-item.is) in
     let bytes : front ++ more ≡ ticks_of (pos 0) (take (i + 1) rs) = sym (ap (ticks_of (pos 0)) next ∙ ticks-push (pos 0) (take i rs) r) in
@@ -62,7 +62,7 @@ loop-reading-preserved c =
       wrote,
       long,
       tick ∙ sym (ap (last_tick (pos 0)) next ∙ last-push (pos 0) (take i rs) r),
-      c.put-zigzag-vlq-int.ensures.lent ∙ c.loop-reading.invariant.3,
+      c.put_zigzag_vlq_int.ensures.lent ∙ c.loop-reading.invariant.3,
       wrote-long start after (ticks_of (pos 0) (take (i + 1) rs)) (omega (arith, c.requires.0, c.requires.1.1.1)) wrote,
     )
 

@@ -5,6 +5,6 @@ pub returns : goal.returns
 returns c =
     record {
       bound = c.get_batch.ensures.count.bound;
-      values = cells-all c.args.cells.now c.get_batch.new.batch _ c.args.bytes.now _ c.args.num-bits c.get_batch.result
+      values = cells-all c.args.cells.now c.get_batch.new.batch _ c.args.bytes.now _ c.args.num_bits c.get_batch.result
           c.get_batch.ensures.cells c.new-reader.ensures.page c.new-reader.ensures.start;
     }

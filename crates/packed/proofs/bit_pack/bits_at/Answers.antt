@@ -1,22 +1,21 @@
-use Rattle.std.proofs.Common.{◌≡◌, ◌+◌, ◌*◌, ◌/◌, ◌%◌, ◌^◌, ◌<◌, sym, ap, ◌∙◌, subst, arith}
-use Rattle.packed.specs.Bytes.{bits_at}
+use Rattle.std.proofs.Common.{◌+◌, ◌*◌, ◌/◌, ◌%◌, ◌^◌, ◌<◌, sym, ap, ◌∙◌, subst}
 use Rattle.packed.proofs.Bytes.{bits_at-part, bits_at-below, bits_at-narrow, ninth}
 use Rattle.packed.proofs.bit_pack.bits_at.Goals as goal
 
-pub returns-then-bit-num-bits-le64 : goal.returns-then-bit-num-bits-le64
-returns-then-bit-num-bits-le64 c =
-    c.word-bits.ensures
-    ∙ ap (λ x. x / 2 ^ c.args.bit % 2 ^ c.args.num-bits) c.load-word-word.ensures
-    ∙ bits_at-part c.args.s.now (8 * c.args.byte) 64 c.args.bit c.args.num-bits c.if-bit-num-bits-le64.true
+pub returns-then-bit-num_bits-le64 : goal.returns-then-bit-num_bits-le64
+returns-then-bit-num_bits-le64 c =
+    c.word_bits.ensures
+    ∙ ap (λ x. x / 2 ^ c.args.bit % 2 ^ c.args.num_bits) c.load_word-word.ensures
+    ∙ bits_at-part c.args.s.now (8 * c.args.byte) 64 c.args.bit c.args.num_bits c.if-bit-num_bits-le64.true
 
-pub overflow-add-word : goal.overflow-add-word
-overflow-add-word c =
-    let joined = ninth c.args.s.now c.args.byte c.args.bit c.load-word-word.result c.load-word-word.ensures c.requires.0 (c.type-inv.s (c.args.byte + 8)).fits in
+pub overflow_add-word : goal.overflow_add-word
+overflow_add-word c =
+    let joined = ninth c.args.s.now c.args.byte c.args.bit c.load_word-word.result c.load_word-word.ensures c.requires.0 (c.type_inv.s (c.args.byte + 8)).fits in
     record { fits = subst (λ x. x < 2 ^ 64) (sym joined) (bits_at-below c.args.s.now (8 * c.args.byte + c.args.bit) 64) }
 
 pub returns : goal.returns
 returns c =
-    c.trailing-bits.ensures
-    ∙ ap (λ x. x % 2 ^ c.args.num-bits)
-    (ninth c.args.s.now c.args.byte c.args.bit c.load-word-word.result c.load-word-word.ensures c.requires.0 (c.type-inv.s (c.args.byte + 8)).fits)
-    ∙ bits_at-narrow c.args.s.now (8 * c.args.byte + c.args.bit) 64 c.args.num-bits c.requires.1.0
+    c.trailing_bits.ensures
+    ∙ ap (λ x. x % 2 ^ c.args.num_bits)
+    (ninth c.args.s.now c.args.byte c.args.bit c.load_word-word.result c.load_word-word.ensures c.requires.0 (c.type_inv.s (c.args.byte + 8)).fits)
+    ∙ bits_at-narrow c.args.s.now (8 * c.args.byte + c.args.bit) 64 c.args.num_bits c.requires.1.0

@@ -1,4 +1,4 @@
-use Rattle.std.proofs.Common.{◌≡◌, ◌+◌, ◌-◌, ◌*◌, ◌^◌, ◌<◌, length, get_or, drop, sym, ap, ◌∙◌, subst, arith}
+use Rattle.std.proofs.Common.{◌≡◌, ◌+◌, ◌-◌, ◌*◌, length, get_or, drop, sym, ap, ◌∙◌, arith}
 use Rattle.std.proofs.lemmas.List.{drop_all}
 use Rattle.packed.specs.Digits.{number}
 use Rattle.packed.proofs.Bytes.{rest_below, rest-is, rest_more}
@@ -8,15 +8,15 @@ pub loop-i-init : goal.loop-i-init
 unfolding number
 loop-i-init c = (sym (ap (number 256) (drop_all (length c.args.s.now) c.args.s.now (omega arith))), c.requires.0)
 
-pub overflow-mul-word : goal.overflow-mul-word
-overflow-mul-word c =
+pub overflow_mul-word : goal.overflow_mul-word
+overflow_mul-word c =
     let small = rest_below c.args.s.now c.loop-i.i 6 (omega arith) in
     record { fits = omega (arith, c.loop-i.invariant.0, small) }
 
-pub overflow-add-word : goal.overflow-add-word
-overflow-add-word c =
+pub overflow_add-word : goal.overflow_add-word
+overflow_add-word c =
     let small = rest_below c.args.s.now c.loop-i.i 6 (omega arith) in
-    record { fits = omega (arith, c.loop-i.invariant.0, small, (c.type-inv.s (c.loop-i.i - 1)).fits) }
+    record { fits = omega (arith, c.loop-i.invariant.0, small, (c.type_inv.s (c.loop-i.i - 1)).fits) }
 
 pub loop-i-preserved : goal.loop-i-preserved
 loop-i-preserved c =
@@ -24,7 +24,7 @@ loop-i-preserved c =
     let i = c.loop-i.i - 1 in
     let same : i + 1 ≡ c.loop-i.i = omega arith in
     let inv : c.loop-i.word ≡ number 256 (drop (i + 1) s) = c.loop-i.invariant.0 ∙ ap (λ k. number 256 (drop k s)) (sym same) in
-    (ap (λ x. x * 256 + get_or s i 0) inv ∙ sym (rest_more s i (omega arith) (c.type-inv.s i).fits), omega arith)
+    (ap (λ x. x * 256 + get_or s i 0) inv ∙ sym (rest_more s i (omega arith) (c.type_inv.s i).fits), omega arith)
 
 pub returns : goal.returns
 returns c =

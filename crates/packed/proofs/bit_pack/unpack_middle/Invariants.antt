@@ -3,4 +3,4 @@ use Rattle.packed.specs.Bytes.{cells_at, overwrite}
 use Rattle.packed.proofs.bit_pack.unpack_middle.Given as goal
 
 abbrev pub invariant-loop-i : goal.invariant-loop-i
-invariant-loop-i g l = l.output ≡ overwrite l.initial.output l.at (cells_at g.T.Element.made l.input (8 * l.start) l.num-bits l.i)
+invariant-loop-i g l = l.output ≡ overwrite l.initial.output l.at (cells_at g.T.Element.made l.input (8 * l.start) l.num_bits l.i)

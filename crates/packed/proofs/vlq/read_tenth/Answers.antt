@@ -1,4 +1,4 @@
-use Rattle.std.proofs.Common.{◌≡◌, ◌+◌, ◌*◌, ◌%◌, ◌^◌, ◌<◌, ◌≤◌, length, get_or, take, drop, Ok, sym, ap, ◌∙◌, ⊎_elim, arith}
+use Rattle.std.proofs.Common.{◌≡◌, ◌+◌, ◌*◌, ◌%◌, ◌^◌, get_or, drop, Ok, sym, ap, ◌∙◌, ⊎_elim, arith}
 use Rattle.std.proofs.lemmas.Bool.{ltb-true, ltb-false}
 use Rattle.packed.proofs.VlqLaws.{number_small, so_far_more, read_here, too-large-here, ends-here, ten-continue, read-long, read-long-cut}
 use Rattle.packed.proofs.vlq.read_tenth.Goals as goal
@@ -6,14 +6,14 @@ use Rattle.packed.proofs.vlq.read_tenth.Goals as goal
 pub returns-then-left-eq9 : goal.returns-then-left-eq9
 returns-then-left-eq9 c = sym (ends-here c.args.page.now c.args.at 9 c.args.low c.requires (omega arith) (omega arith))
 
-pub overflow-add-result : goal.overflow-add-result
-overflow-add-result c =
-    let one = ltb-true (get_or c.args.page.now (c.args.at + 9) 0) 2 (sym c.fits-one-bit.ensures ∙ c.if-fits-one-bit.true) in
+pub overflow_add-result : goal.overflow_add-result
+overflow_add-result c =
+    let one = ltb-true (get_or c.args.page.now (c.args.at + 9) 0) 2 (sym c.fits_one_bit.ensures ∙ c.if-fits_one_bit.true) in
     record { fits = omega (arith, c.requires.0, number_small (drop c.args.at c.args.page.now) 9) }
 
-pub returns-then-fits-one-bit : goal.returns-then-fits-one-bit
-returns-then-fits-one-bit c =
-    let one = ltb-true (get_or c.args.page.now (c.args.at + 9) 0) 2 (sym c.fits-one-bit.ensures ∙ c.if-fits-one-bit.true) in
+pub returns-then-fits_one_bit : goal.returns-then-fits_one_bit
+returns-then-fits_one_bit c =
+    let one = ltb-true (get_or c.args.page.now (c.args.at + 9) 0) 2 (sym c.fits_one_bit.ensures ∙ c.if-fits_one_bit.true) in
     let byte = get_or c.args.page.now (c.args.at + 9) 0 in
     let small = number_small (drop c.args.at c.args.page.now) 9 in
     let e : c.args.low + (byte * 2 ^ 63) % 2 ^ 64 ≡ c.args.low + byte % 128 * 2 ^ 63 = omega arith in
@@ -22,7 +22,7 @@ returns-then-fits-one-bit c =
 
 pub returns-then-byte-lt128 : goal.returns-then-byte-lt128
 returns-then-byte-lt128 c =
-    let wide = ltb-false (get_or c.args.page.now (c.args.at + 9) 0) 2 (sym c.fits-one-bit.ensures ∙ c.if-fits-one-bit.false) in
+    let wide = ltb-false (get_or c.args.page.now (c.args.at + 9) 0) 2 (sym c.fits_one_bit.ensures ∙ c.if-fits_one_bit.false) in
     sym (⊎_elim
     (λ stop. too-large-here c.args.page.now c.args.at 9 c.args.low c.requires (omega arith) (omega arith) stop (omega arith))
     (λ more.

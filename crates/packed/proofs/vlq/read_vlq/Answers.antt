@@ -1,4 +1,4 @@
-use Rattle.std.proofs.Common.{◌≡◌, ℕ, ◌+◌, ◌*◌, ◌%◌, ◌^◌, ◌<◌, ◌≤◌, List, length, get_or, drop, Ok, Result, sym, ap, ◌∙◌, subst, arith}
+use Rattle.std.proofs.Common.{◌≡◌, ℕ, ◌+◌, ◌^◌, ◌<◌, ◌≤◌, List, length, Ok, Result, sym, ap, ◌∙◌, subst, arith}
 use Rattle.packed.proofs.VlqLaws.{so-far-none, so_far_more, shifted, value-below, read_here, ends-here, read_below, read-within}
 use Rattle.packed.specs.Vlq.{SoFar, read_vlq}
 use Rattle.packed.specs.declared.faults.Fault.{Fault}
@@ -18,8 +18,8 @@ loop-i-init c = so-far-none c.args.page.now c.args.at c.requires
 pub returns-then-page-at : goal.returns-then-page-at
 returns-then-page-at c = told c.args.page.now c.args.at (sym (ends-here c.args.page.now c.args.at c.loop-i.i c.loop-i.value c.loop-i.invariant (omega arith) (omega arith)))
 
-pub overflow-add-value : goal.overflow-add-value
-overflow-add-value c =
+pub overflow_add-value : goal.overflow_add-value
+overflow_add-value c =
     let room : c.args.at + c.loop-i.i < length c.args.page.now = omega arith in
     let e = shifted c.args.page.now c.args.at c.loop-i.i c.loop-i.value c.loop-i.invariant room c.loop-i-test.true in
     let b = value-below c.args.page.now c.args.at c.loop-i.i c.loop-i.value c.loop-i.invariant room c.loop-i-test.true in
@@ -41,10 +41,10 @@ loop-i-preserved c =
     subst (λ x. SoFar c.args.page.now c.args.at (c.loop-i.i + 1) (c.loop-i.value + x)) (sym e)
     (so_far_more c.args.page.now c.args.at c.loop-i.i c.loop-i.value c.loop-i.invariant room c.if-byte-lt128.false)
 
-pub read-tenth-requires : goal.read-tenth-requires
-read-tenth-requires c =
+pub read_tenth-requires : goal.read_tenth-requires
+read_tenth-requires c =
     let all : c.loop-i.i ≡ 9 = omega arith in
     subst (λ i. SoFar c.args.page.now c.args.at i c.loop-i.value) all c.loop-i.invariant
 
 pub returns : goal.returns
-returns c = told c.args.page.now c.args.at c.read-tenth.ensures
+returns c = told c.args.page.now c.args.at c.read_tenth.ensures

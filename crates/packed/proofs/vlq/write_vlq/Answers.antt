@@ -1,4 +1,4 @@
-use Rattle.std.proofs.Common.{◌≡◌, ℕ, ◌+◌, ◌-◌, ◌/◌, ◌%◌, ◌<◌, ◌≤◌, Bool, true, false, ltb, [], ◌∷◌, length, set, Ok, sym, ap, ◌∙◌, add-one, arith}
+use Rattle.std.proofs.Common.{◌≡◌, ℕ, ◌+◌, ◌-◌, ◌/◌, ◌%◌, ◌<◌, ◌≤◌, Bool, true, false, ltb, [], length, set, Ok, sym, ap, ◌∙◌, arith}
 use Rattle.std.proofs.lemmas.Bool.{ltb-true, ltb-false}
 use Rattle.packed.proofs.Overwrite.{overwrite-set, overwrite-none}
 use Rattle.packed.proofs.VlqLaws.{vlq-step, vlq-last, vlq-some, read-overwritten, read-fewest}
@@ -18,7 +18,7 @@ bounds-out-i c = omega (arith, vlq-some c.loop-out.rest)
 
 pub loop-out-preserved : goal.loop-out-preserved
 loop-out-preserved c =
-    let step = vlq-step c.loop-out.rest (more c.is-last.ensures c.loop-out-test.true) in
+    let step = vlq-step c.loop-out.rest (more c.is_last.ensures c.loop-out-test.true) in
     let room : c.loop-out.i < length c.loop-out.out = omega (arith, vlq-some c.loop-out.rest) in (
       overwrite-set c.loop-out.out c.loop-out.i (128 + c.loop-out.rest % 128) (vlq (c.loop-out.rest / 128)) room
           ∙ ap (overwrite c.loop-out.out c.loop-out.i) (sym step)
@@ -29,12 +29,12 @@ loop-out-preserved c =
 pub bounds-out-i-2 : goal.bounds-out-i-2
 bounds-out-i-2 c = omega (arith, vlq-some c.loop-out.rest)
 
-pub overflow-sub-result : goal.overflow-sub-result
-overflow-sub-result c = omega (arith, c.loop-out.invariant.1, ap length (vlq-last c.loop-out.rest (last-digit c.is-last.ensures c.loop-out-test.false)), vlq-some c.args.v)
+pub overflow_sub-result : goal.overflow_sub-result
+overflow_sub-result c = omega (arith, c.loop-out.invariant.1, ap length (vlq-last c.loop-out.rest (last-digit c.is_last.ensures c.loop-out-test.false)), vlq-some c.args.v)
 
 pub returns : goal.returns
 returns c =
-    let last = vlq-last c.loop-out.rest (last-digit c.is-last.ensures c.loop-out-test.false) in
+    let last = vlq-last c.loop-out.rest (last-digit c.is_last.ensures c.loop-out-test.false) in
     let room : c.loop-out.i < length c.loop-out.out = omega (arith, vlq-some c.loop-out.rest) in
     let bytes : set c.loop-out.out c.loop-out.i c.loop-out.rest ≡ overwrite c.args.out.now c.args.at (vlq c.args.v) =
     sym (overwrite-none (set c.loop-out.out c.loop-out.i c.loop-out.rest) (c.loop-out.i + 1))

@@ -1,4 +1,4 @@
-use Rattle.std.proofs.Common.{◌≡◌, ◌+◌, ◌≤◌, length}
+use Rattle.std.proofs.Common.{◌≡◌, ◌+◌, length}
 use Rattle.packed.proofs.vlq.write_vlq.Given as goal
 use Rattle.packed.specs.Bytes.{overwrite}
 use Rattle.packed.specs.Vlq.{vlq}

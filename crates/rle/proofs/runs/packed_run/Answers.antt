@@ -5,9 +5,9 @@ use Rattle.bit_reader.proofs.Reading.{all_fit, some_fit, counted}
 use Rattle.rle.specs.Reading.{packed_at, packs}
 use Rattle.rle.proofs.runs.packed_run.Goals as goal
 
-pub returns-then-groups-gt-MAX-GROUPS : goal.returns-then-groups-gt-MAX-GROUPS
+pub returns-then-groups-gt-MAX_GROUPS : goal.returns-then-groups-gt-MAX_GROUPS
 unfolding packed_at
-returns-then-groups-gt-MAX-GROUPS c = sym (cond-true (ltb 2147483647 (8 * c.args.groups)) _ _ (lt-ltb 2147483647 (8 * c.args.groups) (omega arith)))
+returns-then-groups-gt-MAX_GROUPS c = sym (cond-true (ltb 2147483647 (8 * c.args.groups)) _ _ (lt-ltb 2147483647 (8 * c.args.groups) (omega arith)))
 
 pub returns-then-left-groups : goal.returns-then-left-groups
 unfolding packed_at
@@ -22,8 +22,8 @@ returns-then-left-groups c =
     let next : start + g * w ≡ min (start + g * w) (length s) = omega arith in
     ap₂ (λ m n. packs m start n) all next ∙ sym (cond-false (ltb 2147483647 (8 * g)) _ _ (le-ltb 2147483647 (8 * g) (omega arith)))
 
-pub overflow-mul-result-2 : goal.overflow-mul-result-2
-overflow-mul-result-2 c =
+pub overflow_mul-result-2 : goal.overflow_mul-result-2
+overflow_mul-result-2 c =
     let groups : c.args.groups ≤ 268435455 = omega arith in
     let most : c.args.groups * c.args.width ≤ 268435455 * 64 = mul-le-mul groups c.requires.0 in
     record { fits = omega arith }

@@ -5,9 +5,9 @@ use Rattle.rle.specs.Reading.{repeated_at, repeats}
 use Rattle.rle.specs.Runs.{value_bytes}
 use Rattle.rle.proofs.runs.repeated_run.Goals as goal
 
-pub returns-then-count-gt-MAX-COUNT : goal.returns-then-count-gt-MAX-COUNT
+pub returns-then-count-gt-MAX_COUNT : goal.returns-then-count-gt-MAX_COUNT
 unfolding repeated_at
-returns-then-count-gt-MAX-COUNT c = sym (cond-true (ltb 2147483647 c.args.count) _ _ (lt-ltb 2147483647 c.args.count (omega arith)))
+returns-then-count-gt-MAX_COUNT c = sym (cond-true (ltb 2147483647 c.args.count) _ _ (lt-ltb 2147483647 c.args.count (omega arith)))
 
 pub returns-then-page-start : goal.returns-then-page-start
 unfolding repeated_at
@@ -20,6 +20,6 @@ pub returns : goal.returns
 unfolding repeated_at
 returns c =
     let past = c.args.start + value_bytes c.args.width in
-    ap (λ v. repeats c.args.count v past) (c.bits-at-value.ensures ∙ ap (λ p. bits_at c.args.page.now p (8 * value_bytes c.args.width)) (add-zero (8 * c.args.start)))
+    ap (λ v. repeats c.args.count v past) (c.bits_at-value.ensures ∙ ap (λ p. bits_at c.args.page.now p (8 * value_bytes c.args.width)) (add-zero (8 * c.args.start)))
     ∙ sym (cond-false (ltb 2147483647 c.args.count) _ _ (le-ltb 2147483647 c.args.count (omega arith))
     ∙ cond-true (leb past (length c.args.page.now)) _ _ (le-leb past (length c.args.page.now) (omega arith)))

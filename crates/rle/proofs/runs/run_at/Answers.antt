@@ -23,27 +23,27 @@ goes_on TooFewValues other = refl
 pub returns-then-at-page : goal.returns-then-at-page
 returns-then-at-page c = sym (past-stands c.args.width c.args.page.now c.args.at (omega arith))
 
-pub overflow-add-at : goal.overflow-add-at
-overflow-add-at c =
-    let inside = c.read-vlq.ensures.within c.in-Ok.header c.in-Ok.taken c.in-Ok.is in
+pub overflow_add-at : goal.overflow_add-at
+overflow_add-at c =
+    let inside = c.read_vlq.ensures.within c.in-Ok.header c.in-Ok.taken c.in-Ok.is in
     record { fits = omega arith }
 
-pub headed-run-requires : goal.headed-run-requires
-headed-run-requires c = (c.requires, c.read-vlq.ensures.within c.in-Ok.header c.in-Ok.taken c.in-Ok.is)
+pub headed_run-requires : goal.headed_run-requires
+headed_run-requires c = (c.requires, c.read_vlq.ensures.within c.in-Ok.header c.in-Ok.taken c.in-Ok.is)
 
 pub returns-in-Ok : goal.returns-in-Ok
 unfolding headed
 returns-in-Ok c =
-    c.headed-run.ensures ∙ sym (ap (headed c.args.width c.args.page.now c.args.at) (sym c.read-vlq.ensures.value ∙ c.in-Ok.is))
+    c.headed_run.ensures ∙ sym (ap (headed c.args.width c.args.page.now c.args.at) (sym c.read_vlq.ensures.value ∙ c.in-Ok.is))
 
 pub returns-in-DataEnds : goal.returns-in-DataEnds
 unfolding headed
 returns-in-DataEnds c =
-    sym (ap (headed c.args.width c.args.page.now c.args.at) (sym c.read-vlq.ensures.value ∙ c.in-Err.is)
+    sym (ap (headed c.args.width c.args.page.now c.args.at) (sym c.read_vlq.ensures.value ∙ c.in-Err.is)
     ∙ cond-true (ends_page c.in-Err.fault.kind) _ _ (ap ends_page c.in-DataEnds.is))
 
-pub returns-in-default : goal.returns-in-default
+pub returns-in_default : goal.returns-in_default
 unfolding headed
-returns-in-default c =
-    sym (ap (headed c.args.width c.args.page.now c.args.at) (sym c.read-vlq.ensures.value ∙ c.in-Err.is)
-    ∙ cond-false (ends_page c.in-Err.fault.kind) _ _ (goes_on c.in-Err.fault.kind c.in-default.not-DataEnds))
+returns-in_default c =
+    sym (ap (headed c.args.width c.args.page.now c.args.at) (sym c.read_vlq.ensures.value ∙ c.in-Err.is)
+    ∙ cond-false (ends_page c.in-Err.fault.kind) _ _ (goes_on c.in-Err.fault.kind c.in_default.not-DataEnds))

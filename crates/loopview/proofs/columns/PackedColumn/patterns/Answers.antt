@@ -9,7 +9,7 @@ loop-reading-preserved c =
     let xs = vec_items c.loop-reading.patterns in
     let ys = vec_items c.push.new.self in
     let x = c.pattern.result in
-    let pushed = c.in-ok-push.ensures.items in (
+    let pushed = c.in_ok-push.ensures.items in (
       patterns-push c.args.self c.args.readings.now c.loop-reading.reading-index c.reading-item.result xs ys x
           (omega arith) c.reading-item.is c.loop-reading.invariant.0 c.pattern.ensures.value pushed,
       below-push c.args.self xs ys x pushed c.loop-reading.invariant.1 c.pattern.ensures.below,

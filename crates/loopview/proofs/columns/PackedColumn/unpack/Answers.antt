@@ -8,13 +8,13 @@ pub returns : goal.returns
 returns c =
     let w = width_of c.args.self in
     let bytes = c.args.bytes.now in
-    let all : c.unpack-into-found.result ≡ c.args.count = omega (arith, c.in-ok-values.ensures.len) in
-    let cells : c.unpack-into-found.new.cells ≡ unpacked_at w c.args.count bytes =
-    c.unpack-into-found.ensures.values (omega (arith, c.in-ok-values.ensures.len)) ∙ ap₂ (λ w k. unpacked_at w k bytes) c.width.ensures all in
-    let values = with_items_is c.in-ok-values.values c.unpack-into-found.new.cells (omega arith) ∙ cells in
+    let all : c.unpack_into-found.result ≡ c.args.count = omega (arith, c.in_ok-values.ensures.len) in
+    let cells : c.unpack_into-found.new.cells ≡ unpacked_at w c.args.count bytes =
+    c.unpack_into-found.ensures.values (omega (arith, c.in_ok-values.ensures.len)) ∙ ap₂ (λ w k. unpacked_at w k bytes) c.width.ensures all in
+    let values = with_items_is c.in_ok-values.values c.unpack_into-found.new.cells (omega arith) ∙ cells in
     record {
       values = values;
-      len = omega (arith, c.in-ok-values.ensures.len);
+      len = omega (arith, c.in_ok-values.ensures.len);
       below = λ i h. subst (λ l. get_or l i 0 < 2 ^ w) (sym values) (unpacked-below w c.args.count bytes i h);
       fault = tt;
     }

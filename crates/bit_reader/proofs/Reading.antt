@@ -1,10 +1,10 @@
 -- How many values are left, and that they are as many as single reads give.
-use Rattle.std.proofs.Common.{◌≡◌, ℕ, zero, suc, ◌+◌, ◌-◌, ◌*◌, ◌/◌, ◌<◌, ◌≤◌, min, true, false, cond, eqb, leb, List, length, sym, refl, ap, ◌∙◌, subst, ap₂, ⊎_elim, suc-le-suc, zero-le, le_refl, add-zero, mul-le-mul_right, suc-mul, div-lt_iff_lt-mul, add-mul, mul-zero, le-div_iff_mul-le, zero-mul, div-mul-le_self, arith}
+use Rattle.std.proofs.Common.{◌≡◌, ℕ, zero, suc, ◌+◌, ◌-◌, ◌*◌, ◌/◌, ◌<◌, ◌≤◌, min, eqb, leb, List, length, sym, refl, ◌∙◌, subst, ap₂, ⊎_elim, suc-le-suc, zero-le, le_refl, add-zero, mul-le-mul_right, suc-mul, div-lt_iff_lt-mul, add-mul, mul-zero, le-div_iff_mul-le, div-mul-le_self, arith}
 use native.Mathlib.Nat.{lt-div-mul-add}
 use Rattle.std.proofs.lemmas.Bool.{cond-true, cond-false, le-leb, lt-leb, cases_lt, ne_eqb}
-use Rattle.packed.specs.Bytes.{bits_at, cells_at, overwrite}
+use Rattle.packed.specs.Bytes.{cells_at, overwrite}
 use Rattle.packed.proofs.Bytes.{fill-cells}
-use Rattle.bit_reader.specs.Reader.{read_one, readable, Counted, Inside, Moved, page, position}
+use Rattle.bit_reader.specs.Reader.{readable, Counted, Inside, Moved, page, position}
 use Rattle.bit_reader.specs.declared.BitReader.{BitReader}
 
 -- what k of m values keep, in bits that are left

@@ -1,4 +1,6 @@
 //! A reader of packed values, whole bytes and variable-length numbers over a borrowed page.
+#![tactic(auto)]
+
 ghost use Rattle.std.specs.Prelude.{◌≡◌, ◌+◌, ◌*◌, ◌%◌, ◌<◌, ◌≤◌, cond, length, is_some, if◌then◌else◌};
 ghost use Rattle.packed.specs.Bytes.{bits_at, cells_at, overwrite};
 ghost use Rattle.bit_reader.specs.Reader.{Counted, Inside, Moved, next_byte, page, position, read_one};

@@ -1,13 +1,13 @@
 -- How what a writer puts joins what it put before.
-use Rattle.std.proofs.Common.{◌≡◌, ℕ, zero, suc, ◌+◌, ◌-◌, ◌*◌, ◌/◌, ◌%◌, ◌^◌, ◌<◌, ◌≤◌, List, [], ◌∷◌, ◌++◌, length, get_or, take, drop, set, replicate, sym, refl, ap, ◌∙◌, subst, ap₂, lt_of_lt_of_le, add-zero, add_assoc, mod-eq_of_lt, mul_assoc, suc-mul, mul_comm, add_comm, zero-add, mul-add, add-one, arith, lit<, pow_pos, pow_mono, pow-add, shr-shr, shr_lt}
+use Rattle.std.proofs.Common.{◌≡◌, ℕ, ◌+◌, ◌-◌, ◌*◌, ◌/◌, ◌%◌, ◌^◌, ◌<◌, ◌≤◌, List, ◌++◌, length, get_or, take, set, replicate, sym, ap, ◌∙◌, subst, ap₂, lt_of_lt_of_le, add_assoc, mod-eq_of_lt, mul_assoc, suc-mul, mul_comm, add_comm, mul-add, add-one, arith, lit<, pow_pos, pow_mono, pow-add, shr-shr, shr_lt}
 use lib.Pow.{high, low, mod-pow-add}
 use lib.Arith.{digits_lt}
 use lib.Bits.{bit_or, or_shifted_r}
-use native.Mathlib.Nat.{add-mul-div_right, add-mul-mod_self_right, mod-add-mod, mod-mod}
+use native.Mathlib.Nat.{add-mul-div_right, add-mul-mod_self_right, mod-mod}
 use Rattle.std.proofs.lemmas.List.{length-append, replicate_more, length-replicate}
-use Rattle.packed.specs.Bytes.{bits_at, overwrite}
+use Rattle.packed.specs.Bytes.{overwrite}
 use Rattle.packed.specs.Digits.{digits, number}
-use Rattle.bit_writer.specs.Writer.{Holds, PutBits, Wrote, buffer, bytes_for, held_bytes, words_for}
+use Rattle.bit_writer.specs.Writer.{PutBits, Wrote, buffer, bytes_for, held_bytes, words_for}
 use Rattle.bit_writer.specs.declared.BitWriter.{BitWriter}
 use Rattle.packed.proofs.Bytes.{power-bits, shl-cut}
 use Rattle.packed.proofs.Digits.{length_digits, number_push, digits_push, digits_append, digits_same}

@@ -1,5 +1,5 @@
 -- A writer of packed values: which bytes it has written, and which bits it holds behind them.
-use Rattle.std.specs.Prelude.{◌≡◌, ℕ, ◌+◌, ◌*◌, ◌/◌, ◌%◌, ◌^◌, ◌<◌, ◌≤◌, List, ◌++◌, length}
+use Rattle.std.specs.Prelude.{◌≡◌, ℕ, ◌+◌, ◌*◌, ◌/◌, ◌%◌, ◌^◌, ◌<◌, List, length}
 use Rattle.packed.specs.Bytes.{overwrite}
 use Rattle.packed.specs.Digits.{digits}
 use Rattle.bit_writer.specs.declared.BitWriter.{BitWriter}

@@ -1,4 +1,6 @@
 //! A writer of packed values, whole bytes and variable-length numbers over a lent buffer.
+#![tactic(auto)]
+
 ghost use Rattle.std.specs.Prelude.{◌≡◌, ℕ, ◌+◌, ◌*◌, ◌/◌, ◌%◌, ◌^◌, ◌<◌, ◌≤◌, List, ◌++◌, length, replicate, slice_index, slice_set};
 ghost use Rattle.packed.specs.Bytes.{bits_at, overwrite};
 ghost use Rattle.packed.specs.Digits.{digits, number};

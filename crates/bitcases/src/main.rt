@@ -1,5 +1,7 @@
 //! Tries the bit layer on a table of cases: each line of the standard input is a case, and is answered on a line of the
 //! standard output. Blank lines and lines that begin with `#` are skipped.
+#![tactic(auto)]
+
 mod answers;
 mod cases;
 mod trials;

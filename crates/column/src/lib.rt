@@ -1,4 +1,6 @@
 //! Columns of integers, whatever they are coded as.
+#![tactic(auto)]
+
 mod head_reading;
 
 ghost use Rattle.column.specs.Refusals.{numbered};

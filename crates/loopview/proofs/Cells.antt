@@ -1,5 +1,5 @@
 -- The values of a packed column.
-use Rattle.std.proofs.Common.{◌≡◌, ℕ, ◌+◌, ◌*◌, ◌%◌, ◌^◌, ◌<◌, ◌≤◌, List, [], ◌∷◌, ◌++◌, map, length, get_or, take, sym, refl, ap, ◌∙◌, subst, ap₂, lt_of_le_of_lt, arith, below_more}
+use Rattle.std.proofs.Common.{◌≡◌, ℕ, ◌+◌, ◌*◌, ◌%◌, ◌^◌, ◌<◌, List, [], ◌∷◌, ◌++◌, map, length, get_or, take, sym, refl, ap, ◌∙◌, subst, ap₂, lt_of_le_of_lt, below_more}
 use native.Mathlib.Nat.{mod-le}
 use Rattle.std.proofs.lemmas.List.{get_or_append_left, get_or_push, length_push, map_more}
 use Rattle.packed.specs.Bytes.{bits_at, cells_at, overwrite}

@@ -1,7 +1,6 @@
 -- How the bytes of the ticks grow, one reading after the other.
-use Rattle.std.proofs.Common.{◌≡◌, ℕ, ◌+◌, ◌*◌, ◌^◌, ◌<◌, ◌≤◌, List, [], ◌∷◌, ◌++◌, length, get_or, take, ℤ, pos, negsuc, sym, refl, ap, ◌∙◌, subst, ap₂, zero-le, lt_of_lt_of_le, zero-add, arith, lit≤, w64, SFits}
-use Rattle.std.proofs.lemmas.List.{append_assoc, append-nil, length-append}
-use Rattle.std.proofs.lemmas.Int.{ints}
+use Rattle.std.proofs.Common.{◌≡◌, ℕ, ◌+◌, ◌^◌, ◌<◌, ◌≤◌, List, [], ◌∷◌, ◌++◌, length, take, ℤ, pos, negsuc, sym, refl, ap, ◌∙◌, subst, ap₂, zero-le, lt_of_lt_of_le, zero-add, arith, lit≤, w64, SFits}
+use Rattle.std.proofs.lemmas.List.{append_assoc, append-nil}
 use Rattle.packed.specs.Bytes.{overwrite}
 use Rattle.packed.specs.Digits.{digits}
 use Rattle.packed.specs.Vlq.{vlq}

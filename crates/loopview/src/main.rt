@@ -1,4 +1,6 @@
 //! Packs the readings of a detector loop into columns of bytes, and reads them back.
+#![tactic(auto)]
+
 ghost use Rattle.std.specs.Prelude.{◌≡◌, IfSome, Some};
 ghost use Rattle.loopview.specs.Flags.{spelling};
 

@@ -1,15 +1,14 @@
 -- What is read without a fault stands in the format's relation, but for the leniencies.
-use Rattle.std.proofs.Common.{◌≡◌, ℕ, zero, suc, ◌+◌, ◌-◌, ◌*◌, ◌/◌, ◌%◌, ◌^◌, ◌<◌, ◌≤◌, min, Bool, true, false, cond, eqb, ltb, leb, ◌⊎◌, List, [], ◌∷◌, ◌++◌, length, get_or, take, drop, replicate, Ok, Err, Result, sym, refl, ap, ◌∙◌, subst, ap₂, subst₂, inl, inr, ⊎_elim, suc-le-suc, zero-le, le_of_suc-le-suc, not-suc-le-zero, add-zero, mul-le-mul_right, mod-eq_of_lt, mul_assoc, suc-mul, mul-zero, zero-add, zero-mul, arith, lit<, lit≤}
+use Rattle.std.proofs.Common.{◌≡◌, ℕ, zero, suc, ◌+◌, ◌-◌, ◌*◌, ◌/◌, ◌%◌, ◌^◌, ◌<◌, ◌≤◌, min, Bool, true, false, cond, eqb, ltb, leb, List, [], ◌∷◌, ◌++◌, length, take, drop, replicate, Ok, Err, Result, sym, refl, ap, ◌∙◌, subst, ap₂, subst₂, ⊎_elim, zero-le, le_of_suc-le-suc, not-suc-le-zero, add-zero, mul-le-mul_right, mul_assoc, suc-mul, zero-add, zero-mul, arith, lit<}
 use Rattle.std.specs.List.{AllByRecursion as All}
 use Rattle.std.proofs.ByRecursion.{All-drop}
 use Rattle.std.proofs.lemmas.List.{append-nil, drop_all, drop-drop, length-drop, length-take, take-append-drop, same_lists}
-use Rattle.std.proofs.lemmas.Bool.{cases_lt, cases_Bool, cases_eq, lt-ltb, le-ltb, ltb-true, ltb-false, leb-true, leb-false, eqb-true, eqb-false, cond-true, cond-false, both_ways}
+use Rattle.std.proofs.lemmas.Bool.{cases_lt, cases_Bool, cases_eq, ltb-true, ltb-false, leb-true, eqb-true, eqb-false, cond-true, cond-false, both_ways}
 use Rattle.packed.specs.Bytes.{bits_at, cells_at}
 use Rattle.packed.specs.Digits.{number}
 use Rattle.packed.specs.Vlq.{continuing, read_vlq, fault}
 use Rattle.packed.specs.declared.faults.Fault.{Fault}
-use Rattle.packed.specs.declared.faults.FaultKind.{FaultKind}
-use Rattle.packed.proofs.VlqLaws.{WasRead, was_read, read-within, read_some, read_number, read-large, read-cut, read-long, read-long-cut}
+use Rattle.packed.proofs.VlqLaws.{was_read, read-within, read_some, read_number, read-large, read-long}
 use Rattle.packed.proofs.Bytes.{power-bits, bits_inside, bits_at-drop, cells_at-drop, length-cells_at, get_or-cells_at}
 use Rattle.packed.proofs.Digits.{number-take, number-drop}
 use Rattle.bit_reader.specs.Reader.{readable}
@@ -17,7 +16,7 @@ use Rattle.bit_reader.proofs.Reading.{all_fit, some_fit, counted}
 use Rattle.rle.proofs.Later.{past-values}
 use Rattle.rle.specs.Hybrid.{Uleb, last, more, Header, Bytes}
 use Rattle.rle.specs.Lenient.{Lenient, cut_header, zero_header, empty_run, repeated_run, packed_run, cut_run}
-use Rattle.rle.specs.Reading.{ends_page, Stand, ended, stopped, repeats, packs, stop, headed, repeated_at, packed_at, run_at, follow, values_from, waiting_at}
+use Rattle.rle.specs.Reading.{ends_page, Stand, ended, stopped, repeats, packs, stop, headed, repeated_at, packed_at, follow, values_from}
 use Rattle.column.specs.Pages
 use Rattle.column.specs.Pages.{Waiting, Ending, end, nothing, before}
 use Rattle.packed.specs.declared.faults.FaultKind.TheVariants.{VlqTooLarge, RunTooLong, RepeatedValueCut}

@@ -1,22 +1,22 @@
 -- What stands in the public format's relation is read as its values, and then the end.
-use Rattle.std.proofs.Common.{◌≡◌, ℕ, zero, suc, ◌+◌, ◌-◌, ◌*◌, ◌/◌, ◌%◌, ◌^◌, ◌<◌, ◌≤◌, min, true, false, cond, eqb, ltb, leb, List, [], ◌∷◌, ◌++◌, length, get_or, drop, replicate, Ok, sym, refl, ap, ◌∙◌, subst, ap₂, suc-le-suc, zero-le, lt_of_lt_of_le, not-suc-le-zero, add-zero, add_assoc, mul-le-mul_right, mod-eq_of_lt, mul_assoc, suc-mul, mul_comm, mul-zero, div-one, arith, lit<, lit≤, pow_pos}
+use Rattle.std.proofs.Common.{◌≡◌, ℕ, suc, ◌+◌, ◌-◌, ◌*◌, ◌/◌, ◌%◌, ◌^◌, ◌<◌, ◌≤◌, min, eqb, ltb, leb, List, [], ◌++◌, length, drop, replicate, Ok, sym, refl, ap, ◌∙◌, subst, ap₂, suc-le-suc, zero-le, add-zero, mul-le-mul_right, mod-eq_of_lt, mul_assoc, suc-mul, mul_comm, mul-zero, div-one, arith, lit<, pow_pos}
 use native.Mathlib.Nat.{add-mul-mod_self_left}
 use Rattle.std.specs.List.{AllByRecursion as All}
 use Rattle.std.proofs.ByRecursion.{All-get_or}
-use Rattle.std.proofs.lemmas.List.{append_assoc, append-nil, length-append, drop_at, same_lists, get_or_default}
+use Rattle.std.proofs.lemmas.List.{append_assoc, length-append, drop_at, same_lists, get_or_default}
 use Rattle.std.proofs.lemmas.Bool.{lt-ltb, le-ltb, cond-true, cond-false, eq-eqb, ne_eqb, le-leb}
 use Rattle.packed.specs.Bytes.{bits_at, cells_at}
 use Rattle.packed.specs.Digits.{number}
 use Rattle.packed.specs.Vlq.{continuing, read_vlq}
-use Rattle.packed.proofs.Bytes.{power-bits, bits_inside, bits_at-drop, length-cells_at, get_or-cells_at, cells_at-drop}
+use Rattle.packed.proofs.Bytes.{power-bits, bits_inside, bits_at-drop, length-cells_at, get_or-cells_at}
 use Rattle.packed.proofs.Digits.{number_append, number-below, number-digit}
 use Rattle.packed.proofs.VlqLaws.{read-field, read-cut}
 use Rattle.bit_reader.specs.Reader.{readable}
 use Rattle.bit_reader.proofs.Reading.{all_fit, counted}
 use Rattle.rle.specs.Runs.{value_bytes}
-use Rattle.rle.specs.Hybrid.{Uleb, last, more, Header, Count, Bytes, Hybrid, none, repeated_run, packed_run}
-use Rattle.rle.specs.Reading.{Stand, ended, stopped, repeats, packs, run_at, headed, repeated_at, packed_at, follow, values_from, waiting_at, opens, reads}
-use Rattle.column.specs.Pages.{end, nothing, before, Waiting, opened}
+use Rattle.rle.specs.Hybrid.{Uleb, last, more, Header, Count, Hybrid, none, repeated_run, packed_run}
+use Rattle.rle.specs.Reading.{ended, repeats, packs, run_at, headed, repeated_at, packed_at, follow, values_from, waiting_at, opens, reads}
+use Rattle.column.specs.Pages.{end, before, Waiting, opened}
 
 -- ---- headers
 

@@ -1,11 +1,11 @@
 -- The runs of a list stand for the list, with at most seven zeros behind it.
-use Rattle.std.proofs.Common.{◌≡◌, ℕ, zero, suc, ◌+◌, ◌-◌, ◌*◌, ◌/◌, ◌%◌, ◌^◌, ◌<◌, ◌≤◌, Bool, true, false, cond, eqb, ltb, ◌⊎◌, List, [], ◌∷◌, ◌++◌, length, replicate, sym, refl, ap, ◌∙◌, subst, ap₂, inl, inr, ⊎_elim, suc-le-suc, zero-le, not-suc-le-zero, add-zero, add_assoc, zero-add, add-one, arith, lit<, lit≤, length-append, pow_pos}
+use Rattle.std.proofs.Common.{◌≡◌, ℕ, zero, suc, ◌+◌, ◌-◌, ◌%◌, ◌^◌, ◌<◌, ◌≤◌, true, false, cond, eqb, ltb, List, [], ◌∷◌, ◌++◌, length, replicate, sym, refl, ap, ◌∙◌, subst, ap₂, ⊎_elim, suc-le-suc, zero-le, not-suc-le-zero, add-zero, zero-add, arith, lit<, lit≤, length-append, pow_pos}
 use lib.ListN.{length-replicate}
 use Rattle.std.specs.List.{flat_map, AllByRecursion as All}
 use Rattle.std.proofs.lemmas.List.{append_assoc, append-nil, length_push, replicate_more}
-use Rattle.std.proofs.ByRecursion.{All-push, All-append, All-weaker, All-get_or}
+use Rattle.std.proofs.ByRecursion.{All-push, All-append, All-weaker}
 use lib.Arith.{lt_of_le-ne}
-use Rattle.std.proofs.lemmas.Bool.{cases_lt, cases_eq, cases_Bool, lt-ltb, le-ltb, eq-eqb, ne_eqb, eqb-true, eqb-false, ltb-true, ltb-false, cond-true, cond-false, cond_both, both_ways}
+use Rattle.std.proofs.lemmas.Bool.{cases_Bool, eqb-true, eqb-false, ltb-true, ltb-false, cond-true, cond-false, cond_both, both_ways}
 use Rattle.rle.specs.Runs.{Run, repeated, packed, State, gathering, packing, repeating, values_of, all_equal, head, close, collecting, pack_group, settle, step, steps, state, padded, closing}
 
 -- ---- the values that a state holds

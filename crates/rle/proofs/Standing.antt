@@ -1,5 +1,5 @@
 -- A written page stands in the public format's relation to its list.
-use Rattle.std.proofs.Common.{◌≡◌, ℕ, zero, suc, ◌+◌, ◌-◌, ◌*◌, ◌/◌, ◌%◌, ◌^◌, ◌<◌, ◌≤◌, List, [], ◌∷◌, ◌++◌, length, replicate, sym, refl, ap, ◌∙◌, subst, ap₂, ⊎_elim, zero-le, le_trans, lt_of_lt_of_le, mod-lt, mod-eq_of_lt, mul_comm, mul-le-mul_left, mul_left_comm, arith, lit<, lit≤, length-append, pow_pos, pow_mono}
+use Rattle.std.proofs.Common.{◌≡◌, ℕ, zero, suc, ◌+◌, ◌*◌, ◌/◌, ◌%◌, ◌^◌, ◌<◌, ◌≤◌, List, [], ◌∷◌, ◌++◌, length, replicate, sym, ap, ◌∙◌, subst, ⊎_elim, zero-le, lt_of_lt_of_le, mod-lt, mod-eq_of_lt, mul_comm, mul-le-mul_left, mul_left_comm, arith, lit<, lit≤, length-append, pow_pos, pow_mono}
 use lib.ListN.{length-replicate}
 use Rattle.std.proofs.lemmas.Bool.{cases_lt}
 use Rattle.std.specs.List.{flat_map, AllByRecursion as All}
@@ -9,7 +9,7 @@ use Rattle.packed.specs.Vlq.{vlq}
 use Rattle.packed.proofs.Bytes.{power-bits}
 use Rattle.packed.proofs.Digits.{length_digits, number_digits, number-below}
 use Rattle.packed.proofs.VlqLaws.{length-vlq, vlq-ind, vlq-last, vlq-step}
-use Rattle.rle.specs.Hybrid.{Uleb, last, more, Header, Count, Bytes, Hybrid, none, repeated_run, packed_run}
+use Rattle.rle.specs.Hybrid.{Uleb, last, more, Header, Bytes, Hybrid, none, repeated_run, packed_run}
 use Rattle.rle.specs.Runs.{Run, repeated, packed, bytes_of, values_of, value_bytes, state, closing, page}
 use Rattle.rle.proofs.Splitting.{RunOk, Below, values_in, state-sound, closing-sound, closing-values, state-few, state-held}
 

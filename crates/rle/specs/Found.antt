@@ -1,5 +1,5 @@
 -- What a run that was read says.
-use Rattle.std.specs.Prelude.{ℕ, Ok, Err, Result}
+use Rattle.std.specs.Prelude.{Ok, Err, Result}
 use Rattle.packed.specs.declared.faults.Fault.{Fault}
 use Rattle.rle.specs.declared.runs.Found.{Found}
 use Rattle.rle.specs.declared.runs.Found.TheVariants.{End, Repeated, Packed}

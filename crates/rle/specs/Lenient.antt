@@ -1,5 +1,5 @@
 -- What a reader takes beyond the public format, each leniency under a name.
-use Rattle.std.specs.Prelude.{◌≡◌, ℕ, ◌+◌, ◌*◌, ◌/◌, ◌^◌, ◌<◌, ◌≤◌, List, [], ◌++◌, length, replicate}
+use Rattle.std.specs.Prelude.{◌≡◌, ℕ, ◌+◌, ◌*◌, ◌/◌, ◌<◌, ◌≤◌, List, [], ◌++◌, length, replicate}
 use Rattle.std.specs.List.{AllByRecursion as All}
 use Rattle.packed.specs.Bytes.{cells_at}
 use Rattle.packed.specs.Digits.{number}

@@ -1,12 +1,12 @@
 -- What a page of the RLE/bit-packed hybrid reads as, run by run.
-use Rattle.std.specs.Prelude.{ℕ, zero, suc, ◌+◌, ◌*◌, ◌/◌, ◌%◌, min, Bool, true, false, cond, List, [], length, replicate, Ok, Err, Result, ◌==◌, nat_le, nat_lt}
+use Rattle.std.specs.Prelude.{ℕ, zero, suc, ◌+◌, ◌*◌, ◌/◌, ◌%◌, min, Bool, true, false, cond, List, length, replicate, Ok, Err, Result, ◌==◌, nat_le, nat_lt}
 use Rattle.packed.specs.Bytes.{bits_at, cells_at}
 use Rattle.packed.specs.Vlq.{read_vlq}
 use Rattle.packed.specs.declared.faults.Fault.{Fault}
 use Rattle.packed.specs.declared.faults.FaultKind.{FaultKind}
 use Rattle.packed.specs.declared.faults.FaultKind.TheVariants.{VlqTooLarge, DataEnds, RunTooLong, RepeatedValueCut, BadBlockSize, BadMiniBlocks, TotalTooLarge, ValueOutOfRange, MiniWidthTooLarge, TooFewValues}
 use Rattle.bit_reader.specs.Reader.{readable}
-use Rattle.column.specs.Pages.{Ending, end, fault, Waiting, nothing, before, Reading, refused, opened}
+use Rattle.column.specs.Pages.{end, fault, Waiting, nothing, before, Reading, refused, opened}
 use Rattle.rle.specs.Runs.{value_bytes}
 
 -- What stands at a place: the end, a fault, or a run and the place of the next. A packed run has as many values as are whole;

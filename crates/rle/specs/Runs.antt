@@ -1,5 +1,5 @@
 -- How a list of values is cut into runs, and the bytes of each run.
-use Rattle.std.specs.Prelude.{ℕ, zero, suc, ◌+◌, ◌-◌, ◌*◌, ◌/◌, ◌^◌, Bool, true, false, cond, List, [], ◌∷◌, ◌++◌, length, replicate, ◌==◌, nat_lt}
+use Rattle.std.specs.Prelude.{ℕ, ◌+◌, ◌-◌, ◌*◌, ◌/◌, ◌^◌, Bool, true, false, cond, List, [], ◌∷◌, ◌++◌, length, replicate, ◌==◌, nat_lt}
 use Rattle.std.specs.List.{flat_map}
 use Rattle.packed.specs.Digits.{digits, number}
 use Rattle.packed.specs.Vlq.{vlq}

@@ -1,6 +1,8 @@
 //! The RLE/bit-packed hybrid: what its pages are, what is proved of them, and how a run is read.
 //!
 //! The functions of this file are theorems: each stands in its function's contract, over every width, list and page.
+#![tactic(auto)]
+
 mod runs;
 
 ghost use Rattle.rle.specs.Theorems.{ReadStands, StandingIsRead, WrittenIsRead, WrittenIsShort, WrittenStands};

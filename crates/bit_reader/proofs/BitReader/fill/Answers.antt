@@ -1,5 +1,4 @@
-use Rattle.std.proofs.Common.{◌≡◌, ◌+◌, ◌-◌, ◌*◌, ◌/◌, ◌%◌, ◌≤◌, length, sym, ap, ◌∙◌, subst, ap₂, add_assoc, mul-le-mul_right, add-mul, arith}
-use Rattle.bit_reader.specs.Reader.{page, position}
+use Rattle.std.proofs.Common.{◌≡◌, ◌+◌, ◌-◌, ◌*◌, ◌/◌, ◌%◌, ◌≤◌, length, sym, ap, ◌∙◌, subst, add_assoc, mul-le-mul_right, add-mul, arith}
 use Rattle.bit_reader.proofs.Reading.{Filled, filled_more}
 use Rattle.bit_reader.proofs.BitReader.fill.Goals as goal
 

@@ -1,4 +1,4 @@
-use Rattle.std.proofs.Common.{◌≡◌, suc, ◌+◌, ◌*◌, ◌≤◌, length, sym, ap, ◌∙◌, subst, ap₂, add-zero, add_assoc, mul-le-mul_right, suc-mul, zero-mul, add-one, arith}
+use Rattle.std.proofs.Common.{◌≡◌, suc, ◌+◌, ◌*◌, ◌≤◌, length, ap, ◌∙◌, subst, ap₂, mul-le-mul_right, suc-mul, add-one, arith}
 use Rattle.packed.specs.Bytes.{bits_at, cells_at, overwrite}
 use Rattle.bit_reader.specs.Reader.{Moved, page, position}
 use Rattle.packed.proofs.Bytes.{fill_none, fill_more}

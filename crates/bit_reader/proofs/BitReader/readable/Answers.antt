@@ -1,4 +1,4 @@
-use Rattle.std.proofs.Common.{◌≡◌, ◌+◌, ◌-◌, ◌*◌, ◌/◌, ◌≤◌, length, sym, ap, ◌∙◌, subst, arith}
+use Rattle.std.proofs.Common.{◌≡◌, ◌-◌, ◌*◌, ◌/◌, length, arith}
 use Rattle.bit_reader.specs.Reader.{page, position}
 use Rattle.bit_reader.proofs.Reading.{all_fit, some_fit, counted}
 use Rattle.bit_reader.proofs.BitReader.readable.Goals as goal

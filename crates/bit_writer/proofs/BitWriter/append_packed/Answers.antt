@@ -1,8 +1,8 @@
-use Rattle.std.proofs.Common.{◌≡◌, suc, ◌+◌, ◌*◌, ◌^◌, ◌<◌, ◌≤◌, ◌++◌, length, get_or, take, sym, refl, ap, ◌∙◌, subst, ap₂, mul-le-mul_right, suc-mul, zero-mul, arith, lit<}
+use Rattle.std.proofs.Common.{◌≡◌, suc, ◌+◌, ◌*◌, ◌^◌, ◌<◌, ◌≤◌, length, take, sym, refl, ap, ◌∙◌, subst, mul-le-mul_right, suc-mul, zero-mul, arith, lit<}
 use Rattle.std.proofs.lemmas.List.{take_all}
-use Rattle.packed.specs.Bytes.{bits_at, overwrite}
+use Rattle.packed.specs.Bytes.{bits_at}
 use Rattle.packed.specs.Digits.{digits, number}
-use Rattle.bit_writer.specs.Writer.{Holds, PutBits, Wrote, buffer, bytes_for, held_bytes, words_for}
+use Rattle.bit_writer.specs.Writer.{PutBits, Wrote, buffer, bytes_for}
 use Rattle.packed.proofs.Bytes.{packed-back}
 use Rattle.bit_writer.proofs.Writing.{put-none, put-value-more, put-flushed, wrote-more}
 use Rattle.bit_writer.proofs.BitWriter.append_packed.Goals as goal

@@ -1,4 +1,4 @@
-use Rattle.std.proofs.Common.{◌+◌, sym, refl, ap, arith}
+use Rattle.std.proofs.Common.{◌+◌, refl, ap, arith}
 use Rattle.packed.specs.Vlq.{vlq}
 use Rattle.bit_writer.proofs.Writing.{wrote-more}
 use Rattle.bit_writer.proofs.BitWriter.append_vlq.Goals as goal

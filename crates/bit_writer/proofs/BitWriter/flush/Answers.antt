@@ -1,7 +1,7 @@
-use Rattle.std.proofs.Common.{◌≡◌, ◌+◌, length, sym, refl, ap, ◌∙◌, arith}
+use Rattle.std.proofs.Common.{◌+◌, sym, refl, ap, ◌∙◌}
 use Rattle.packed.specs.Bytes.{overwrite}
 use Rattle.packed.specs.Digits.{digits}
-use Rattle.bit_writer.specs.Writer.{buffer, bytes_for, held_bytes}
+use Rattle.bit_writer.specs.Writer.{buffer, bytes_for}
 use Rattle.packed.proofs.Digits.{length_digits}
 use Rattle.bit_writer.proofs.BitWriter.flush.Goals as goal
 

@@ -1,5 +1,5 @@
 use borrow.Author.Tests.{true-ltb}
-use Rattle.std.proofs.Common.{suc, ◌*◌, ◌≤◌, length, suc-mul, mul-le-mul_left, arith}
+use Rattle.std.proofs.Common.{suc, ◌*◌, ◌≤◌, suc-mul, mul-le-mul_left, arith}
 use Rattle.bitcases.proofs.trials.put_values.Goals as goal
 
 -- The values take no more bits than as many of 64 do.

@@ -1,5 +1,5 @@
 -- No more readings than lines have been read, of which there are at most as many as bytes of text.
-use Rattle.std.proofs.Common.{◌+◌, ◌≤◌, length, vec_len}
+use Rattle.std.proofs.Common.{◌+◌, ◌≤◌, vec_len}
 use Rattle.loopview.proofs.readings.parse.Given as goal
 
 abbrev pub invariant-loop-index : goal.invariant-loop-index

@@ -1,4 +1,4 @@
-use Rattle.std.proofs.Common.{◌≡◌, ◌+◌, ◌*◌, ◌≤◌, ltb, leb, length, sym, ap, ◌∙◌, add-zero, arith}
+use Rattle.std.proofs.Common.{◌+◌, ◌*◌, ltb, leb, length, sym, ap, ◌∙◌, add-zero, arith}
 use Rattle.std.proofs.lemmas.Bool.{lt-ltb, le-ltb, le-leb, lt-leb, cond-true, cond-false}
 use Rattle.packed.specs.Bytes.{bits_at}
 use Rattle.rle.specs.Reading.{repeated_at, repeats}

@@ -1,9 +1,8 @@
-use Rattle.std.proofs.Common.{◌≡◌, ◌+◌, true, false, sym, refl, ap, ◌∙◌, arith}
+use Rattle.std.proofs.Common.{◌≡◌, false, sym, refl, ap, ◌∙◌, arith}
 use Rattle.std.proofs.lemmas.Bool.{cond-true, cond-false}
-use Rattle.packed.specs.Vlq.{read_vlq}
 use Rattle.packed.specs.declared.faults.FaultKind.{FaultKind}
 use Rattle.packed.specs.declared.faults.FaultKind.TheVariants.{VlqTooLarge, DataEnds, RunTooLong, RepeatedValueCut, BadBlockSize, BadMiniBlocks, TotalTooLarge, ValueOutOfRange, MiniWidthTooLarge, TooFewValues}
-use Rattle.rle.specs.Reading.{ends_page, headed, run_at}
+use Rattle.rle.specs.Reading.{ends_page, headed}
 use Rattle.rle.proofs.Later.{past-stands}
 use Rattle.rle.proofs.runs.run_at.Goals as goal
 

@@ -1,6 +1,6 @@
-use Rattle.std.proofs.Common.{◌≡◌, ◌^◌, ◌<◌, length, get_or, sym, ◌∙◌, subst, ap₂, arith}
+use Rattle.std.proofs.Common.{◌≡◌, ◌^◌, ◌<◌, get_or, sym, ◌∙◌, subst, ap₂, arith}
 use Rattle.std.proofs.lemmas.List.{with_items_is}
-use Rattle.loopview.specs.Columns.{unpacked_at, unpacked_of, width_of}
+use Rattle.loopview.specs.Columns.{unpacked_at, width_of}
 use Rattle.loopview.proofs.Cells.{unpacked-below}
 use Rattle.loopview.proofs.columns.PackedColumn.unpack.Goals as goal
 

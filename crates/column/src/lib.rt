@@ -1,15 +1,25 @@
 //! Columns of integers, whatever they are coded as.
 #![tactic(auto)]
 
+mod coding;
+mod declined;
 mod head_reading;
+mod putting;
+mod whole_page;
+mod working;
 
 ghost use Rattle.column.specs.Refusals.{numbered};
 ghost use Rattle.std.specs.Prelude.{◌≡◌};
 
+pub use coding::{Coding, Decoder, Encoder, Meaning, Pass};
+pub use declined::Declined;
 pub use head_reading::HeadReading;
-pub use packed::Element;
+pub use packed::{Element, Fault, FaultKind, Layer};
+pub use putting::{PutList, put_list};
+pub use whole_page::work_page;
+pub use working::{Put, PutCall, Take, TakeAnswer, TakeCall};
 
-/// Why a call was declined. It changed nothing.
+/// Why a call was refused. It changed nothing.
 #[derive(Clone, Copy)]
 pub enum Refusal {
     /// the coding has no such width

@@ -2,7 +2,7 @@
 use Rattle.std.proofs.Common.{◌≡◌, ℕ, zero, suc, ◌+◌, ◌*◌, ◌/◌, ◌%◌, ◌^◌, ◌<◌, List, [], ◌∷◌, ◌++◌, length, get_or, take, drop, sym, refl, ap, ◌∙◌, ap₂, suc-le-suc, zero-le, le_of_suc-le-suc, not-suc-le-zero, add-zero, add_assoc, mod-lt, mod-eq_of_lt, mul_assoc, mul_comm, add_comm, suc-add, mul-pos, one-mul, pow-suc, mul-zero, zero-add, mul-add, div-one, arith}
 use lib.Arith.{digits_div, digits_mod, digits_lt, mod-mul}
 use native.Mathlib.Nat.{pow-zero, pow-succ', mod-one, mod-mod, div-div-eq-div-mul, div-eq_of_lt}
-use Rattle.std.specs.List.{AllByRecursion as All}
+use Rattle.std.specs.List.{AllByRecursion}
 use Rattle.std.proofs.lemmas.List.{drop_more, length-take-le, take_more}
 use Rattle.packed.specs.Digits.{number, digits}
 
@@ -100,7 +100,7 @@ module _ (b : ℕ) (base : 0 < b) where
   get_or-digits (suc k) n (suc i) h = get_or-digits k (n / b) i (le_of_suc-le-suc h) ∙ rw (pow-succ', ← div-div-eq-div-mul)
 
   -- digits below the base are the digits of their number
-  pub digits_number : (ds : List ℕ) → All (λ d. d < b) ds → digits b (length ds) (number b ds) ≡ ds
+  pub digits_number : (ds : List ℕ) → AllByRecursion (λ d. d < b) ds → digits b (length ds) (number b ds) ≡ ds
   unfolding digits
   digits_number [] h = refl
   digits_number (d ∷ ds) h =

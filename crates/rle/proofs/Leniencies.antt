@@ -1,6 +1,6 @@
 -- What is read without a fault stands in the format's relation, but for the leniencies.
 use Rattle.std.proofs.Common.{◌≡◌, ℕ, zero, suc, ◌+◌, ◌-◌, ◌*◌, ◌/◌, ◌%◌, ◌^◌, ◌<◌, ◌≤◌, min, Bool, true, false, cond, eqb, ltb, leb, List, [], ◌∷◌, ◌++◌, length, take, drop, replicate, Ok, Err, Result, sym, refl, ap, ◌∙◌, subst, ap₂, subst₂, ⊎_elim, zero-le, le_of_suc-le-suc, not-suc-le-zero, add-zero, mul-le-mul_right, mul_assoc, suc-mul, zero-add, zero-mul, arith, lit<}
-use Rattle.std.specs.List.{AllByRecursion as All}
+use Rattle.std.specs.List.{AllByRecursion}
 use Rattle.std.proofs.ByRecursion.{All-drop}
 use Rattle.std.proofs.lemmas.List.{append-nil, drop_all, drop-drop, length-drop, length-take, take-append-drop, same_lists}
 use Rattle.std.proofs.lemmas.Bool.{cases_lt, cases_Bool, cases_eq, ltb-true, ltb-false, leb-true, eqb-true, eqb-false, cond-true, cond-false, both_ways}
@@ -25,7 +25,7 @@ use Rattle.rle.specs.Runs.{value_bytes}
 -- ---- headers
 
 -- bytes that all continue
-all-continue : (d : List ℕ) → length d ≤ continuing d → All (λ b. 128 ≤ b) d
+all-continue : (d : List ℕ) → length d ≤ continuing d → AllByRecursion (λ b. 128 ≤ b) d
 unfolding continuing
 all-continue [] h = tt
 all-continue (b ∷ bs) h =
@@ -68,7 +68,7 @@ read-header s at n k bytes e =
     }
 
 -- a header that was cut
-header-cut : (s : List ℕ) (at : ℕ) (f : Fault) → read_vlq s at ≡ Err f → ends_page f.kind ≡ true → All (λ b. 128 ≤ b) (drop at s) × (length (drop at s) ≤ 10)
+header-cut : (s : List ℕ) (at : ℕ) (f : Fault) → read_vlq s at ≡ Err f → ends_page f.kind ≡ true → AllByRecursion (λ b. 128 ≤ b) (drop at s) × (length (drop at s) ≤ 10)
 header-cut s at f e ends =
     ⊎_elim
     (λ (few : c < 10). ⊎_elim
@@ -87,7 +87,7 @@ header-cut s at f e ends =
     c : ℕ
     c = continuing (drop at s)
 
-    ended : length (drop at s) ≤ c → length (drop at s) ≤ 10 → All (λ b. 128 ≤ b) (drop at s) × (length (drop at s) ≤ 10)
+    ended : length (drop at s) ≤ c → length (drop at s) ≤ 10 → AllByRecursion (λ b. 128 ≤ b) (drop at s) × (length (drop at s) ≤ 10)
     ended all short = (all-continue (drop at s) all, short)
 
     found : {r : ℕ × ℕ} → ◌≡◌ {A = Result (ℕ × ℕ) Fault} (Ok r) (Err f) → ⊥

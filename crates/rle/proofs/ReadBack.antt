@@ -1,7 +1,7 @@
 -- What stands in the public format's relation is read as its values, and then the end.
 use Rattle.std.proofs.Common.{◌≡◌, ℕ, suc, ◌+◌, ◌-◌, ◌*◌, ◌/◌, ◌%◌, ◌^◌, ◌<◌, ◌≤◌, min, eqb, ltb, leb, List, [], ◌++◌, length, drop, replicate, Ok, sym, refl, ap, ◌∙◌, subst, ap₂, suc-le-suc, zero-le, add-zero, mul-le-mul_right, mod-eq_of_lt, mul_assoc, suc-mul, mul_comm, mul-zero, div-one, arith, lit<, pow_pos}
 use native.Mathlib.Nat.{add-mul-mod_self_left}
-use Rattle.std.specs.List.{AllByRecursion as All}
+use Rattle.std.specs.List.{AllByRecursion}
 use Rattle.std.proofs.ByRecursion.{All-get_or}
 use Rattle.std.proofs.lemmas.List.{append_assoc, length-append, drop_at, same_lists, get_or_default}
 use Rattle.std.proofs.lemmas.Bool.{lt-ltb, le-ltb, cond-true, cond-false, eq-eqb, ne_eqb, le-leb}
@@ -65,7 +65,7 @@ number_behind front bytes rest =
     ∙ mod-eq_of_lt small
 
 -- packed values behind a front
-cells-behind : (front body rest values : List ℕ) (w : ℕ) → number 256 body ≡ number (2 ^ w) values → length values * w ≤ 8 * length body → All (λ v. v < 2 ^ w) values → cells_at (λ v. v) (front ++ (body ++ rest)) (8 * length front) w (length values) ≡ values
+cells-behind : (front body rest values : List ℕ) (w : ℕ) → number 256 body ≡ number (2 ^ w) values → length values * w ≤ 8 * length body → AllByRecursion (λ v. v < 2 ^ w) values → cells_at (λ v. v) (front ++ (body ++ rest)) (8 * length front) w (length values) ≡ values
 cells-behind front body rest values w same room below =
     let s = front ++ (body ++ rest) in
     let m = length values in

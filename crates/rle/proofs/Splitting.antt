@@ -1,7 +1,7 @@
 -- The runs of a list stand for the list, with at most seven zeros behind it.
 use Rattle.std.proofs.Common.{◌≡◌, ℕ, zero, suc, ◌+◌, ◌-◌, ◌%◌, ◌^◌, ◌<◌, ◌≤◌, true, false, cond, eqb, ltb, List, [], ◌∷◌, ◌++◌, length, replicate, sym, refl, ap, ◌∙◌, subst, ap₂, ⊎_elim, suc-le-suc, zero-le, not-suc-le-zero, add-zero, zero-add, arith, lit<, lit≤, length-append, pow_pos}
 use lib.ListN.{length-replicate}
-use Rattle.std.specs.List.{flat_map, AllByRecursion as All}
+use Rattle.std.specs.List.{flat_map, AllByRecursion}
 use Rattle.std.proofs.lemmas.List.{append_assoc, append-nil, length_push, replicate_more}
 use Rattle.std.proofs.ByRecursion.{All-push, All-append, All-weaker}
 use lib.Arith.{lt_of_le-ne}
@@ -150,24 +150,24 @@ state-few l = steps-few (gathering [] []) l (lit< tt)
 -- a run of values below 2 ^ w: repeated at least once and at most m times, or packed in 1 to 63 groups
 abbrev pub RunOk : ℕ → ℕ → Run → Type 0
 RunOk w m (repeated n v) = (0 < n) × (n ≤ m) × (v < 2 ^ w)
-RunOk w m (packed vs) = (0 < length vs) × (length vs ≤ 504) × (length vs % 8 ≡ 0) × All (λ v. v < 2 ^ w) vs
+RunOk w m (packed vs) = (0 < length vs) × (length vs ≤ 504) × (length vs % 8 ≡ 0) × AllByRecursion (λ v. v < 2 ^ w) vs
 
 abbrev pub Below : ℕ → List ℕ → Type 0
-Below w l = All (λ v. v < 2 ^ w) l
+Below w l = AllByRecursion (λ v. v < 2 ^ w) l
 
 abbrev pub Sound : ℕ → ℕ → State → Type 0
-Sound w m (gathering rs g) = All (RunOk w m) rs × (length g ≤ m) × Below w g × (length g < 8)
-Sound w m (packing rs p g) = All (RunOk w m) rs × (0 < length p) × (length p < 504) × (length p % 8 ≡ 0) × Below w p × Below w g × (length g < 8) × (length g ≤ m)
-Sound w m (repeating rs n v) = All (RunOk w m) rs × (8 ≤ n) × (n ≤ m) × (v < 2 ^ w)
+Sound w m (gathering rs g) = AllByRecursion (RunOk w m) rs × (length g ≤ m) × Below w g × (length g < 8)
+Sound w m (packing rs p g) = AllByRecursion (RunOk w m) rs × (0 < length p) × (length p < 504) × (length p % 8 ≡ 0) × Below w p × Below w g × (length g < 8) × (length g ≤ m)
+Sound w m (repeating rs n v) = AllByRecursion (RunOk w m) rs × (8 ≤ n) × (n ≤ m) × (v < 2 ^ w)
 
 run_more : (w m : ℕ) (run : Run) → RunOk w m run → RunOk w (m + 1) run
 run_more w m (repeated n v) ok = (ok.0, omega (arith, ok.1), ok.2)
 run_more w m (packed vs) ok = ok
 
-runs-more : (w m : ℕ) (rs : List Run) → All (RunOk w m) rs → All (RunOk w (m + 1)) rs
+runs-more : (w m : ℕ) (rs : List Run) → AllByRecursion (RunOk w m) rs → AllByRecursion (RunOk w (m + 1)) rs
 runs-more w m rs ok = All-weaker (RunOk w m) (RunOk w (m + 1)) (run_more w m) rs ok
 
-pack-sound : (w m : ℕ) (rs : List Run) (p : List ℕ) → All (RunOk w m) rs → 0 < length p → length p ≤ 504 → length p % 8 ≡ 0 → Below w p → Sound w m (pack_group rs p)
+pack-sound : (w m : ℕ) (rs : List Run) (p : List ℕ) → AllByRecursion (RunOk w m) rs → 0 < length p → length p ≤ 504 → length p % 8 ≡ 0 → Below w p → Sound w m (pack_group rs p)
 unfolding pack_group
 pack-sound w m rs p ok some most groups below =
     cond_both (eqb (length p) 504) (gathering (rs ++ packed p ∷ []) []) (packing rs p []) (Sound w m)
@@ -178,15 +178,15 @@ pack-sound w m rs p ok some most groups below =
 abbrev Open : ℕ → List ℕ → Type 0
 Open w p = (length p < 504) × (length p % 8 ≡ 0) × Below w p
 
-close-sound : (w m : ℕ) (rs : List Run) (p : List ℕ) → All (RunOk w m) rs → Open w p → All (RunOk w m) (close rs p)
+close-sound : (w m : ℕ) (rs : List Run) (p : List ℕ) → AllByRecursion (RunOk w m) rs → Open w p → AllByRecursion (RunOk w m) (close rs p)
 close-sound w m rs [] ok o = ok
 close-sound w m rs (p ∷ ps) ok o = All-push (RunOk w m) rs (packed (p ∷ ps)) ok (suc-le-suc zero-le, omega (arith, o.0), o.1, o.2)
 
-collecting-sound : (w m : ℕ) (rs : List Run) (p g : List ℕ) → All (RunOk w m) rs → Open w p → length g ≤ m → Below w g → length g < 8 → Sound w m (collecting rs p g)
+collecting-sound : (w m : ℕ) (rs : List Run) (p g : List ℕ) → AllByRecursion (RunOk w m) rs → Open w p → length g ≤ m → Below w g → length g < 8 → Sound w m (collecting rs p g)
 collecting-sound w m rs [] g ok o long below few = (ok, long, below, few)
 collecting-sound w m rs (p ∷ ps) g ok o long below few = (ok, suc-le-suc zero-le, o.0, o.1, o.2, below, few, long)
 
-settle-sound : (w m : ℕ) (rs : List Run) (p g : List ℕ) → All (RunOk w m) rs → Open w p → 0 < length g → length g ≤ 8 → length g ≤ m → Below w g → Sound w m (settle rs p g)
+settle-sound : (w m : ℕ) (rs : List Run) (p g : List ℕ) → AllByRecursion (RunOk w m) rs → Open w p → 0 < length g → length g ≤ 8 → length g ≤ m → Below w g → Sound w m (settle rs p g)
 unfolding settle
 settle-sound w m rs p g ok o some most long below =
     cond_both (ltb (length g) 8) (collecting rs p g) (cond (all_equal (head g) g) (repeating (close rs p) 8 (head g)) (pack_group rs (p ++ g))) (Sound w m)
@@ -235,13 +235,13 @@ zeros-below : (w k : ℕ) → Below w (replicate k 0)
 zeros-below w zero = tt
 zeros-below w (suc k) = (pow_pos w, zeros-below w k)
 
-length-padded : (g : List ℕ) → length g < 8 → length (padded g) ≡ 8
+pub length-padded : (g : List ℕ) → length g < 8 → length (padded g) ≡ 8
 length-padded g few = simp (length-append, length-replicate) (omega arith)
 
 padded-below : (w : ℕ) (g : List ℕ) → Below w g → Below w (padded g)
 padded-below w g below = All-append (λ v. v < 2 ^ w) g (replicate (8 - length g) 0) below (zeros-below w (8 - length g))
 
-pub closing-sound : (w m : ℕ) (s : State) → Sound w m s → All (RunOk w m) (closing s)
+pub closing-sound : (w m : ℕ) (s : State) → Sound w m s → AllByRecursion (RunOk w m) (closing s)
 unfolding closing
 closing-sound w m (gathering rs []) ok = ok.0
 closing-sound w m (gathering rs (x ∷ g)) ok =

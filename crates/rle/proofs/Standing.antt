@@ -2,7 +2,7 @@
 use Rattle.std.proofs.Common.{◌≡◌, ℕ, zero, suc, ◌+◌, ◌*◌, ◌/◌, ◌%◌, ◌^◌, ◌<◌, ◌≤◌, List, [], ◌∷◌, ◌++◌, length, replicate, sym, ap, ◌∙◌, subst, ⊎_elim, zero-le, lt_of_lt_of_le, mod-lt, mod-eq_of_lt, mul_comm, mul-le-mul_left, mul_left_comm, arith, lit<, lit≤, length-append, pow_pos, pow_mono}
 use lib.ListN.{length-replicate}
 use Rattle.std.proofs.lemmas.Bool.{cases_lt}
-use Rattle.std.specs.List.{flat_map, AllByRecursion as All}
+use Rattle.std.specs.List.{flat_map, AllByRecursion}
 use Rattle.std.proofs.lemmas.List.{append_assoc}
 use Rattle.packed.specs.Digits.{digits, number}
 use Rattle.packed.specs.Vlq.{vlq}
@@ -31,7 +31,7 @@ digits-bytes zero n = tt
 digits-bytes (suc k) n = (mod-lt n (lit< tt), digits-bytes k (n / 256))
 
 -- runs that the format allows stand for their values
-pub runs-stand : (w m : ℕ) (rs : List Run) → m ≤ 2147483647 → All (RunOk w m) rs → Hybrid w (flat_map (bytes_of w) rs) (values_in rs)
+pub runs-stand : (w m : ℕ) (rs : List Run) → m ≤ 2147483647 → AllByRecursion (RunOk w m) rs → Hybrid w (flat_map (bytes_of w) rs) (values_in rs)
 runs-stand w m [] most ok = none
 runs-stand w m (repeated n v ∷ rs) most ok =
     let head = vlq (2 * n) in
@@ -88,7 +88,7 @@ run_short w m (packed vs) wide most ok =
     let body : g * w ≤ g * 64 = mul-le-mul_left g wide in
     omega (arith, length-vlq 0 (2 * g + 1) (omega (arith, ok.1)), ok.0, ok.2)
 
-runs-short : (w m : ℕ) (rs : List Run) → w ≤ 64 → m ≤ 2147483647 → All (RunOk w m) rs → length (flat_map (bytes_of w) rs) ≤ 9 * length (values_in rs)
+runs-short : (w m : ℕ) (rs : List Run) → w ≤ 64 → m ≤ 2147483647 → AllByRecursion (RunOk w m) rs → length (flat_map (bytes_of w) rs) ≤ 9 * length (values_in rs)
 runs-short w m [] wide most ok = zero-le
 runs-short w m (r ∷ rs) wide most ok =
     let one = run_short w m r wide most ok.0 in

@@ -1,6 +1,6 @@
 -- What a reader takes beyond the public format, each leniency under a name.
 use Rattle.std.specs.Prelude.{◌≡◌, ℕ, ◌+◌, ◌*◌, ◌/◌, ◌<◌, ◌≤◌, List, [], ◌++◌, length, replicate}
-use Rattle.std.specs.List.{AllByRecursion as All}
+use Rattle.std.specs.List.{AllByRecursion}
 use Rattle.packed.specs.Bytes.{cells_at}
 use Rattle.packed.specs.Digits.{number}
 use Rattle.rle.specs.Hybrid.{Header, Count}
@@ -12,7 +12,7 @@ use Rattle.rle.specs.Hybrid.{Header, Count}
 -- - a repeated value keeps all bits of its bytes,
 -- - a packed run that is cut gives its complete values, and ends the page.
 pub data Lenient (w : ℕ) : List ℕ → List ℕ → Type 0 where
-  cut_header : {bytes : List ℕ} → All (λ b. 128 ≤ b) bytes → length bytes ≤ 10 → Lenient w bytes []
+  cut_header : {bytes : List ℕ} → AllByRecursion (λ b. 128 ≤ b) bytes → length bytes ≤ 10 → Lenient w bytes []
   zero_header : {head : List ℕ} (rest : List ℕ) → Header head 0 → Lenient w (head ++ rest) []
   empty_run : {head rest vs : List ℕ} → Header head 1 → Lenient w rest vs → Lenient w (head ++ rest) vs
   repeated_run : {head rest vs : List ℕ} (n : ℕ) (value : List ℕ) → Header head (2 * n) → Count n → length value ≡ (w + 7) / 8

@@ -4,3 +4,4 @@ pub mod Lenient
 pub mod Reading
 pub mod Runs
 pub mod Theorems
+pub mod Writing

@@ -1,6 +1,6 @@
 -- What is proved of the pages of the RLE/bit-packed hybrid.
 use Rattle.std.specs.Prelude.{◌≡◌, ℕ, ◌+◌, ◌*◌, ◌^◌, ◌<◌, ◌≤◌, List, ◌++◌, length, replicate}
-use Rattle.std.specs.List.{AllByRecursion as All}
+use Rattle.std.specs.List.{AllByRecursion}
 use Rattle.column.specs.Pages.{end, opened}
 use Rattle.rle.specs.Hybrid.{Bytes, Hybrid}
 use Rattle.rle.specs.Lenient.{Lenient}
@@ -10,7 +10,7 @@ use Rattle.rle.specs.Runs.{page}
 -- A list that a page of width w can hold.
 pub record Column (w : ℕ) (l : List ℕ) : Type 0 where
   pub width : w ≤ 64
-  pub below : All (λ v. v < 2 ^ w) l
+  pub below : AllByRecursion (λ v. v < 2 ^ w) l
   pub count : length l ≤ 2147483647
 
 -- A written page stands, in the public format, for its list and at most seven zeros behind it.

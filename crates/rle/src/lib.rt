@@ -1,12 +1,14 @@
-//! The RLE/bit-packed hybrid: what its pages are, what is proved of them, and how a run is read.
+//! The RLE/bit-packed hybrid: what its pages are, what is proved of them, how a run is read, and the bytes of a run.
 //!
 //! The functions of this file are theorems: each stands in its function's contract, over every width, list and page.
 #![tactic(auto)]
 
+mod pieces;
 mod runs;
 
 ghost use Rattle.rle.specs.Theorems.{ReadStands, StandingIsRead, WrittenIsRead, WrittenIsShort, WrittenStands};
 
+pub use pieces::{group_bytes, repeated_bytes, value_bytes, vlq_length};
 pub use runs::{Found, run_at};
 
 /// A written page stands, in the public format, for its list and at most seven zeros behind it.

@@ -1,7 +1,8 @@
 //! What stands at a place of a page: the end, or a run and the place of the next.
-ghost use Rattle.std.specs.Prelude.{◌≡◌, ◌+◌, ◌*◌, ◌≤◌, length};
-ghost use Rattle.rle.specs.Found.{found};
+ghost use Rattle.std.specs.Prelude.{◌≡◌, ℕ, ◌+◌, ◌*◌, ◌≤◌, length, Some, Ok};
+ghost use Rattle.rle.specs.Found.{found, header_of};
 ghost use Rattle.rle.specs.Reading.{headed_at, packed_at, repeated_at, run_at};
+ghost use Rattle.packed.specs.Vlq.{read_vlq};
 
 use packed::{Fault, FaultKind, bits_at, read_vlq};
 
@@ -35,10 +36,22 @@ pub fn run_at(page: &[u8], width: usize, at: usize) -> Result<Found, Fault>
     if at > page.len() {
         return Ok(Found::End);
     }
+    let Some((header, taken)) = header_at(page, at)? else {
+        return Ok(Found::End);
+    };
+    headed_run(page, width, at, at + taken, header)
+}
+
+// The header that begins at `at`, and how many bytes it takes: none where the data ends before or inside it.
+fn header_at(page: &[u8], at: usize) -> Result<Option<(u64, usize)>, Fault>
+    requires { at ≤ length page.now }
+    ensures value { result ≡ header_of (read_vlq page.now at) }
+    ensures within { (n taken : ℕ) → result ≡ Ok (Some (n, taken)) → at + taken ≤ length page.now }
+{
     match read_vlq(page, at) {
-        Ok((header, taken)) => headed_run(page, width, at, at + taken, header),
+        Ok((header, taken)) => Ok(Some((header, taken))),
         Err(fault) => match fault.kind {
-            FaultKind::DataEnds => Ok(Found::End),
+            FaultKind::DataEnds => Ok(None),
             _ => Err(fault),
         },
     }

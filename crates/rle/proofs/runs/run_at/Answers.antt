@@ -1,48 +1,38 @@
-use Rattle.std.proofs.Common.{◌≡◌, false, sym, refl, ap, ◌∙◌, arith}
-use Rattle.std.proofs.lemmas.Bool.{cond-true, cond-false}
-use Rattle.packed.specs.declared.faults.FaultKind.{FaultKind}
-use Rattle.packed.specs.declared.faults.FaultKind.TheVariants.{VlqTooLarge, DataEnds, RunTooLong, RepeatedValueCut, BadBlockSize, BadMiniBlocks, TotalTooLarge, ValueOutOfRange, MiniWidthTooLarge, TooFewValues}
-use Rattle.rle.specs.Reading.{ends_page, headed}
+use Rattle.std.proofs.Common.{Ok, sym, ap, ◌∙◌, arith}
+use Rattle.std.proofs.lemmas.Result.{err_from_is_err_and}
+use Rattle.packed.specs.Vlq.{read_vlq}
+use Rattle.rle.proofs.Headers.{headed_by, headed-by}
 use Rattle.rle.proofs.Later.{past-stands}
 use Rattle.rle.proofs.runs.run_at.Goals as goal
-
--- only data that ends ends the page
-goes_on : (kind : FaultKind) → (kind ≡ DataEnds → ⊥) → ends_page kind ≡ false
-goes_on DataEnds other = absurd (other refl)
-goes_on VlqTooLarge other = refl
-goes_on RunTooLong other = refl
-goes_on RepeatedValueCut other = refl
-goes_on BadBlockSize other = refl
-goes_on BadMiniBlocks other = refl
-goes_on TotalTooLarge other = refl
-goes_on ValueOutOfRange other = refl
-goes_on MiniWidthTooLarge other = refl
-goes_on TooFewValues other = refl
 
 pub returns-then-at-page : goal.returns-then-at-page
 returns-then-at-page c = sym (past-stands c.args.width c.args.page.now c.args.at (omega arith))
 
+pub returns-in_err-header : goal.returns-in_err-header
+returns-in_err-header c =
+    let w = c.args.width in
+    let s = c.args.page.now in
+    let p = err_from_is_err_and c.from_residual.result c.from_residual.ensures.1 in
+    rw (p.1, p.2) (sym (headed-by w s c.args.at (read_vlq s c.args.at) ∙ ap (headed_by w s c.args.at) (sym c.header_at.ensures.value ∙ c.in_err-header.was)))
+
+pub returns-in_default : goal.returns-in_default
+returns-in_default c =
+    let w = c.args.width in
+    let s = c.args.page.now in
+    let none = sym c.header_at.ensures.value ∙ c.in_ok-header.was ∙ ap Ok c.in_default.is in
+    sym (headed-by w s c.args.at (read_vlq s c.args.at) ∙ ap (headed_by w s c.args.at) none)
+
 pub overflow_add-at : goal.overflow_add-at
 overflow_add-at c =
-    let inside = c.read_vlq.ensures.within c.in-Ok.header c.in-Ok.taken c.in-Ok.is in
+    let inside = c.header_at.ensures.within c.in-Some.header c.in-Some.taken (c.in_ok-header.was ∙ ap Ok c.in-Some.is) in
     record { fits = omega arith }
 
 pub headed_run-requires : goal.headed_run-requires
-headed_run-requires c = (c.requires, c.read_vlq.ensures.within c.in-Ok.header c.in-Ok.taken c.in-Ok.is)
+headed_run-requires c = (c.requires, c.header_at.ensures.within c.in-Some.header c.in-Some.taken (c.in_ok-header.was ∙ ap Ok c.in-Some.is))
 
-pub returns-in-Ok : goal.returns-in-Ok
-unfolding headed
-returns-in-Ok c =
-    c.headed_run.ensures ∙ sym (ap (headed c.args.width c.args.page.now c.args.at) (sym c.read_vlq.ensures.value ∙ c.in-Ok.is))
-
-pub returns-in-DataEnds : goal.returns-in-DataEnds
-unfolding headed
-returns-in-DataEnds c =
-    sym (ap (headed c.args.width c.args.page.now c.args.at) (sym c.read_vlq.ensures.value ∙ c.in-Err.is)
-    ∙ cond-true (ends_page c.in-Err.fault.kind) _ _ (ap ends_page c.in-DataEnds.is))
-
-pub returns-in_default : goal.returns-in_default
-unfolding headed
-returns-in_default c =
-    sym (ap (headed c.args.width c.args.page.now c.args.at) (sym c.read_vlq.ensures.value ∙ c.in-Err.is)
-    ∙ cond-false (ends_page c.in-Err.fault.kind) _ _ (goes_on c.in-Err.fault.kind c.in_default.not-DataEnds))
+pub returns : goal.returns
+returns c =
+    let w = c.args.width in
+    let s = c.args.page.now in
+    let some = sym c.header_at.ensures.value ∙ c.in_ok-header.was ∙ ap Ok c.in-Some.is in
+    c.headed_run.ensures ∙ sym (headed-by w s c.args.at (read_vlq s c.args.at) ∙ ap (headed_by w s c.args.at) some)

@@ -1,0 +1,142 @@
+-- The return trip.
+use Rattle.std.proofs.Common.{◌≡◌, ℕ, zero, suc, ◌^◌, ◌<◌, ◌≤◌, Bool, true, false, cond, T, ltb, List, [], ◌∷◌, ◌++◌, length, take, drop, replicate, Ok, Err, sym, refl, ap, ◌∙◌, subst, ap₂, zero-le, mod-eq_of_lt, arith, take-add, pow_pos, pow_mono}
+use Rattle.std.specs.List.{AllByRecursion}
+use Rattle.std.proofs.ByRecursion.{All-append, All-drop, All-take, All-weaker}
+use Rattle.std.proofs.lemmas.Bool.{cond_both, ltb-false}
+use Rattle.column.specs.Pages.{end, Waiting, Reading, opened}
+use Rattle.column.specs.Putting.{Column}
+use Rattle.column.specs.Taking.{Taking, taking, taking_as, short_by, behind}
+use Rattle.column.specs.Trips.{Kind, Lawful, Putting, patterns, accepted_by, accepted_after, Asking, get, get_batch, skip, taken_by, taken, asked_by, asked, NoFault, Faultless, SamePatterns, HandedBy, Handed, ComesBack, Returned, ReturnTrip}
+use Rattle.column.specs.declared.declined.Declined.TheVariants.{Refused}
+use Rattle.column.specs.declared.Refusal.TheVariants.{ElementTooNarrow}
+use Rattle.column.proofs.Puts.{Holds, put_holds}
+
+-- ---- what was accepted fits
+
+pub accepted-holds : (need : List ℕ → ℕ) (w room : ℕ) (l : List ℕ) (cs : List Putting) → Holds need w room l → Holds need w room (accepted_after need w room l cs)
+unfolding accepted_after
+accepted-holds need w room l [] h = h
+accepted-holds need w room l (c ∷ cs) h = accepted-holds need w room (accepted_by need w room l c) cs (put_holds need w room l (patterns c) h)
+
+-- ---- what is taken
+
+abbrev refusing : Waiting → Taking
+refusing r = record { answer = Err (Refused ElementTooNarrow); values = []; left = r }
+
+-- by whether the element is too narrow
+one-values : (t : Bool) (m : ℕ) (r : Waiting) → (cond t (refusing r) (taking m r)).values ≡ take (cond t 0 m) r.values
+one-values true m r = refl
+one-values false m r = refl
+
+one_left : (t : Bool) (m : ℕ) (r : Waiting) → (cond t (refusing r) (taking m r)).left ≡ behind (cond t 0 m) r
+one_left true m r = refl
+one_left false m r = refl
+
+by_values : (w : ℕ) (c : Asking) (r : Waiting) → (taken_by w c r).values ≡ take (asked_by w c) r.values
+by_values w (get k) r = one-values (ltb k.bits w) 1 r
+by_values w (get_batch k m) r = one-values (ltb k.bits w) m r
+by_values w (skip m) r = refl
+
+by_left : (w : ℕ) (c : Asking) (r : Waiting) → (taken_by w c r).left ≡ behind (asked_by w c) r
+by_left w (get k) r = one_left (ltb k.bits w) 1 r
+by_left w (get_batch k m) r = one_left (ltb k.bits w) m r
+by_left w (skip m) r = refl
+
+taken-all : (w : ℕ) (r : Waiting) (cs : List Asking) → taken w r cs ≡ take (asked w cs) r.values
+unfolding taken asked
+taken-all w r [] = refl
+taken-all w r (c ∷ cs) =
+    ap₂ (λ x y. x ++ taken w y cs) (by_values w c r) (by_left w c r)
+    ∙ ap (λ y. take (asked_by w c) r.values ++ y) (taken-all w (behind (asked_by w c) r) cs)
+    ∙ sym (take-add (asked_by w c) (asked w cs) r.values)
+
+-- ---- no fault before the end
+
+short-sound : (t : Bool) (m k : ℕ) → NoFault (cond t (short_by end k) (Ok m))
+short-sound true m k = tt
+short-sound false m k = tt
+
+one-sound : (t : Bool) (m : ℕ) (vs : List ℕ) → NoFault (cond t (refusing (record { values = vs; ending = end })) (taking m (record { values = vs; ending = end }))).answer
+one-sound true m vs = tt
+one-sound false m vs = short-sound (ltb (length vs) m) m (length vs)
+
+by-sound : (w : ℕ) (c : Asking) (vs : List ℕ) → NoFault (taken_by w c (record { values = vs; ending = end })).answer
+by-sound w (get k) vs = one-sound (ltb k.bits w) 1 vs
+by-sound w (get_batch k m) vs = one-sound (ltb k.bits w) m vs
+by-sound w (skip m) vs = short-sound (ltb (length vs) m) m (length vs)
+
+all_sound : (w : ℕ) (vs : List ℕ) (cs : List Asking) → Faultless w (record { values = vs; ending = end }) cs
+unfolding Faultless
+all_sound w vs [] = tt
+all_sound w vs (c ∷ cs) =
+    (by-sound w c vs, subst (λ r. Faultless w r cs) (sym (by_left w c (record { values = vs; ending = end }))) (all_sound w (drop (asked_by w c) vs) cs))
+
+-- ---- every value handed out has its pattern
+
+abbrev Below : ℕ → List ℕ → Type 0
+Below w vs = AllByRecursion (λ p. p < 2 ^ w) vs
+
+module _ (w : ℕ) (narrow : w ≤ 64) where
+  again-same : (k : Kind) → Lawful k → w ≤ k.bits → (p : ℕ) → p < 2 ^ w → k.again p ≡ p
+  again-same k lawful wide p below =
+      let small : p < 2 ^ 64 = omega (arith, pow_mono narrow) in
+      let fits : p < 2 ^ k.bits = omega (arith, pow_mono wide) in
+      lawful p small ∙ mod-eq_of_lt fits
+
+  one_same : (k : Kind) (m : ℕ) (r : Waiting) → Below w r.values → SamePatterns k (taking_as k.bits w m r).values
+  one_same k m r below lawful =
+      cond_both (ltb k.bits w) (refusing r) (taking m r) (λ t. AllByRecursion (λ p. k.again p ≡ p) t.values)
+      (λ short. tt)
+      (λ wide.
+      All-weaker (λ p. p < 2 ^ w) (λ p. k.again p ≡ p) (again-same k lawful (ltb-false k.bits w wide)) (take m r.values) (All-take (λ p. p < 2 ^ w) m r.values below))
+
+  by-same : (c : Asking) (r : Waiting) → Below w r.values → HandedBy c (taken_by w c r).values
+  by-same (get k) r below = one_same k 1 r below
+  by-same (get_batch k m) r below = one_same k m r below
+  by-same (skip m) r below = tt
+
+  all_same : (r : Waiting) (cs : List Asking) → Below w r.values → Handed w r cs
+  unfolding Handed
+  all_same r [] below = tt
+  all_same r (c ∷ cs) below = (
+    by-same c r below,
+    subst (λ x. Handed w x cs) (sym (by_left w c r)) (all_same (behind (asked_by w c) r) cs (All-drop (λ p. p < 2 ^ w) (asked_by w c) r.values below)),
+  )
+
+zeros-below : (w k : ℕ) → Below w (replicate k 0)
+zeros-below w zero = tt
+zeros-below w (suc k) = (pow_pos w, zeros-below w k)
+
+pub comes_back : (w : ℕ) (l : List ℕ) (k : ℕ) (asks : List Asking) → w ≤ 64 → Below w l → k ≤ 7 → ComesBack w l (record { values = l ++ replicate k 0; ending = end }) asks
+comes_back w l k asks narrow below few =
+    let r : Waiting = record { values = l ++ replicate k 0; ending = end } in
+    record {
+      zeros = k;
+      few = few;
+      next = taken-all w r asks;
+      no_fault = all_sound w (l ++ replicate k 0) asks;
+      handed = all_same w narrow r asks (All-append (λ p. p < 2 ^ w) l (replicate k 0) below (zeros-below w k));
+    }
+
+-- ---- over every coding that keeps the laws
+
+module _ (allows : ℕ → Bool) (page : ℕ → List ℕ → List ℕ) (need : ℕ → List ℕ → ℕ) (reads : ℕ → ℕ → List ℕ → Reading)
+    (narrow : (w : ℕ) → T (allows w) → w ≤ 64)
+    (back : (w : ℕ) (l : List ℕ) → T (allows w) → Column w l → (k : ℕ) × (k ≤ 7) × (reads w (length l) (page w l) ≡ opened (record { values = l ++ replicate k 0; ending = end })))
+    (within : (w : ℕ) (l : List ℕ) → T (allows w) → Column w l → length (page w l) ≤ need w l) where
+  pub fresh_holds : (w room : ℕ) → need w [] ≤ room → Holds (need w) w room []
+  fresh_holds w room h = record { column = record { below = tt; count = zero-le }; fits = h }
+
+  pub returned : (w room : ℕ) (l : List ℕ) (asks : List Asking) → T (allows w) → Holds (need w) w room l → Returned page reads w room l asks
+  returned w room l asks allowed holds =
+      let b = back w l allowed holds.column in
+      record {
+        waiting = record { values = l ++ replicate b.0 0; ending = end };
+        fits = omega (arith, within w l allowed holds.column, holds.fits);
+        opens = b.2;
+        back = comes_back w l b.0 asks (narrow w allowed) holds.column.below b.1;
+        same = λ m e. ap (page w) e;
+      }
+
+  pub return-trip : ReturnTrip allows page need reads
+  return-trip w room puts asks allowed h = returned w room (accepted_after (need w) w room [] puts) asks allowed (accepted-holds (need w) w room [] puts (fresh_holds w room h))

@@ -1,0 +1,6 @@
+mod Answering
+mod First
+mod Loading
+mod Opened
+mod Passing
+mod Turns

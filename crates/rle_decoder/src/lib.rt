@@ -1,0 +1,6 @@
+//! A decoder of pages of the RLE/bit-packed hybrid.
+#![tactic(auto)]
+
+mod decoder;
+
+pub use decoder::RleDecoder;

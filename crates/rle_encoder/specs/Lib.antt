@@ -1,0 +1,4 @@
+pub mod Encoder
+pub mod Encoding
+pub mod Extending
+pub mod Finishing

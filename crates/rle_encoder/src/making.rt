@@ -1,0 +1,68 @@
+//! Making an encoder.
+ghost use Rattle.std.specs.Prelude.{◌≡◌, ◌≤◌, [], length, nat_le};
+ghost use Rattle.column.specs.Putting.{Checking};
+ghost use Rattle.rle_encoder.specs.Encoder.{accepted, need};
+
+use crate::{Phase, RleEncoder, RlePass};
+use column::Refusal;
+
+impl<'a> RleEncoder<'a> {
+    /// Whether an encoder of this width can be made over the buffer. The empty list needs no byte.
+    pub fn check(out: &[u8], width: u32) -> Result<RlePass, Refusal>
+        ensures { Checking (λ (p : RlePass). p.width) (λ p. p.room) (nat_le width 64) (need width []) width (length out.now) result }
+    {
+        pass_for(width, out.len())
+    }
+
+    /// An encoder over the buffer that was checked.
+    pub fn new(pass: RlePass, out: &'a mut [u8]) -> RleEncoder<'a>
+        requires { length out.old ≡ pass.room }
+        ensures accepted { accepted result ≡ [] }
+        ensures width { result.width ≡ pass.width }
+        ensures buffer { result.out.now ≡ out.old }
+        ensures lent { result.out.ghost_name ≡ out.entry.ghost_name }
+    {
+        RleEncoder::empty(pass.width, out)
+    }
+
+    // An encoder that has accepted nothing.
+    fn empty(width: usize, out: &'a mut [u8]) -> RleEncoder<'a>
+        requires { width ≤ 64 }
+        ensures accepted { accepted result ≡ [] }
+        ensures width { result.width ≡ width }
+        ensures buffer { result.out.now ≡ out.old }
+        ensures lent { result.out.ghost_name ≡ out.entry.ghost_name }
+    {
+        RleEncoder {
+            out,
+            width,
+            length: 0,
+            written: 0,
+            phase: Phase::Gathering,
+            current: 0,
+            alike: true,
+            gathered: [0; 8],
+            collected: 0,
+        }
+    }
+}
+
+// Whether values have so many bits at most.
+// The pass for a width and a buffer's length.
+fn pass_for(width: u32, room: usize) -> Result<RlePass, Refusal>
+    ensures { Checking (λ (p : RlePass). p.width) (λ p. p.room) (nat_le width 64) (need width []) width room result }
+{
+    if !is_allowed(width) {
+        return Err(Refusal::BadWidth);
+    }
+    Ok(RlePass {
+        width: width as usize,
+        room,
+    })
+}
+
+fn is_allowed(width: u32) -> bool
+    ensures { result ≡ nat_le width 64 }
+{
+    width <= 64
+}

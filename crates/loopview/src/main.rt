@@ -11,6 +11,7 @@ mod report;
 use columns::Columns;
 use report::{Extent, Table};
 use std::error::Error;
+use std::process::ExitCode;
 use std::{env, fmt, io};
 
 const USAGE: &str = "\
@@ -117,10 +118,10 @@ fn run(rt: &HostRuntime) -> anyhow::Result<()> {
     Ok(())
 }
 
-fn main(rt: HostRuntime) -> anyhow::Result<()> {
-    let outcome = run(&rt);
-    if let Err(fault) = &outcome {
-        eprintln!(rt; "loopview: {fault}")?;
-    }
-    outcome
+fn main(rt: HostRuntime) -> ExitCode {
+    let Err(fault) = run(&rt) else {
+        return ExitCode::SUCCESS;
+    };
+    let _ = eprintln!(rt; "loopview: {fault}");
+    ExitCode::FAILURE
 }

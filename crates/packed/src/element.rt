@@ -6,7 +6,7 @@ ghost use Rattle.std.proofs.Common.{of_z, to_z, rules};
 /// A type of column elements, by its patterns.
 ///
 /// At a number type the ghost members range over all numbers, so the laws have the premise `proper`, which `to_pattern` hands
-/// out. No clause can name an associated constant, so `width_bits` tells it.
+/// out. The clauses speak of `bits`; `width_bits` says that the constant is that number.
 pub trait Element: Copy {
     const WIDTH: u32;
 

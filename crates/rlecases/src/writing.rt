@@ -128,7 +128,6 @@ fn put_one(encoder: &mut RleEncoder<'_>, kind: Kind, pattern: u64) -> Result<(),
     }
 }
 
-// Puts one value after another, and stops at the first that is refused.
 // The page, and whether all bytes behind it are 0.
 fn show_page(answer: &mut Answer, buffer: &[u8], length: usize) {
     answer.count("-> ", length);

@@ -82,18 +82,18 @@ pub trait Decoder {
 
     /// Takes one value.
     fn get<E: Element>(&mut self) -> Result<Option<E>, Declined>
-        ensures answer { result ≡ single E.Element.made (taking_as E.Element.bits (width self.old) 1 (waiting self.old)).answer (taking_as E.Element.bits (width self.old) 1 (waiting self.old)).values }
-        ensures left { waiting self.new ≡ (taking_as E.Element.bits (width self.old) 1 (waiting self.old)).left }
-        ensures below { AllByRecursion (λ p. p < 2 ^ 64) (taking_as E.Element.bits (width self.old) 1 (waiting self.old)).values }
+        ensures answer { result ≡ single E.Element.made (taking_as E.Element.WIDTH (width self.old) 1 (waiting self.old)).answer (taking_as E.Element.WIDTH (width self.old) 1 (waiting self.old)).values }
+        ensures left { waiting self.new ≡ (taking_as E.Element.WIDTH (width self.old) 1 (waiting self.old)).left }
+        ensures below { AllByRecursion (λ p. p < 2 ^ 64) (taking_as E.Element.WIDTH (width self.old) 1 (waiting self.old)).values }
         ensures page { page self.new ≡ page self.old }
         ensures width { width self.new ≡ width self.old };
 
     /// Takes as many values as there are cells, into the first of them; the others stay.
     fn get_batch<E: Element>(&mut self, cells: &mut [E]) -> Result<usize, Declined>
-        ensures answer { result ≡ (taking_as E.Element.bits (width self.old) (length cells.old) (waiting self.old)).answer }
-        ensures cells { cells.new ≡ overwrite cells.old 0 (map E.Element.made (taking_as E.Element.bits (width self.old) (length cells.old) (waiting self.old)).values) }
-        ensures left { waiting self.new ≡ (taking_as E.Element.bits (width self.old) (length cells.old) (waiting self.old)).left }
-        ensures below { AllByRecursion (λ p. p < 2 ^ 64) (taking_as E.Element.bits (width self.old) (length cells.old) (waiting self.old)).values }
+        ensures answer { result ≡ (taking_as E.Element.WIDTH (width self.old) (length cells.old) (waiting self.old)).answer }
+        ensures cells { cells.new ≡ overwrite cells.old 0 (map E.Element.made (taking_as E.Element.WIDTH (width self.old) (length cells.old) (waiting self.old)).values) }
+        ensures left { waiting self.new ≡ (taking_as E.Element.WIDTH (width self.old) (length cells.old) (waiting self.old)).left }
+        ensures below { AllByRecursion (λ p. p < 2 ^ 64) (taking_as E.Element.WIDTH (width self.old) (length cells.old) (waiting self.old)).values }
         ensures page { page self.new ≡ page self.old }
         ensures width { width self.new ≡ width self.old };
 

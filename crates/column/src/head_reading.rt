@@ -15,7 +15,7 @@ pub struct HeadReading {
 impl Element for HeadReading {
     const WIDTH: u32 = 16;
 
-    ghost bits = { 16 };
+    ghost WIDTH = { 16 };
 
     ghost proper = { λ v. (v.address < 256) × (v.value < 256) };
 
@@ -23,15 +23,13 @@ impl Element for HeadReading {
 
     ghost made = { λ p. record { address = (p / 256) % 256; value = p % 256 } };
 
+    ghost narrow = { Prim.search rules };
+
     ghost below = { Prim.search rules };
 
     ghost makes = { Prim.search rules };
 
     ghost wraps = { Prim.search rules };
-
-    fn width_bits() -> u32 {
-        Self::WIDTH
-    }
 
     fn to_pattern(self) -> u64 {
         self.address as u64 * 256 + self.value as u64

@@ -54,8 +54,8 @@ pub(crate) fn put_all<'a, N: Encoder<'a>, E: Element>(
     puts: &mut [Put<E>],
 ) -> usize
     requires { length (N.Encoder.accepted encoder.old) ≤ 2147483647 }
-    ensures answers { puts.new ≡ puts_answered (kind_of E.Element.bits E.Element.pattern E.Element.made) E.Element.pattern values.now (N.Code.Meaning.need (N.Encoder.width encoder.old)) (N.Encoder.width encoder.old) (N.Encoder.room encoder.old) (N.Encoder.accepted encoder.old) puts.old }
-    ensures accepted { N.Encoder.accepted encoder.new ≡ accepted_after (N.Code.Meaning.need (N.Encoder.width encoder.old)) (N.Encoder.width encoder.old) (N.Encoder.room encoder.old) (N.Encoder.accepted encoder.old) (puts_of (kind_of E.Element.bits E.Element.pattern E.Element.made) E.Element.pattern values.now puts.old) }
+    ensures answers { puts.new ≡ puts_answered (kind_of E.Element.WIDTH E.Element.pattern E.Element.made) E.Element.pattern values.now (N.Code.Meaning.need (N.Encoder.width encoder.old)) (N.Encoder.width encoder.old) (N.Encoder.room encoder.old) (N.Encoder.accepted encoder.old) puts.old }
+    ensures accepted { N.Encoder.accepted encoder.new ≡ accepted_after (N.Code.Meaning.need (N.Encoder.width encoder.old)) (N.Encoder.width encoder.old) (N.Encoder.room encoder.old) (N.Encoder.accepted encoder.old) (puts_of (kind_of E.Element.WIDTH E.Element.pattern E.Element.made) E.Element.pattern values.now puts.old) }
     ensures count { length (N.Encoder.accepted encoder.old) + result ≡ length (N.Encoder.accepted encoder.new) }
     ensures width { N.Encoder.width encoder.new ≡ N.Encoder.width encoder.old }
     ensures room { N.Encoder.room encoder.new ≡ N.Encoder.room encoder.old }
@@ -75,8 +75,8 @@ fn put_call<'a, N: Encoder<'a>, E: Element>(
     values: &[E],
     call: PutCall<E>,
 ) -> PutList
-    ensures answer { result ≡ putting (N.Code.Meaning.need (N.Encoder.width encoder.old)) (N.Encoder.width encoder.old) (N.Encoder.room encoder.old) (N.Encoder.accepted encoder.old) (patterns (put_of (kind_of E.Element.bits E.Element.pattern E.Element.made) E.Element.pattern values.now call)) }
-    ensures accepted { N.Encoder.accepted encoder.new ≡ accepted_by (N.Code.Meaning.need (N.Encoder.width encoder.old)) (N.Encoder.width encoder.old) (N.Encoder.room encoder.old) (N.Encoder.accepted encoder.old) (put_of (kind_of E.Element.bits E.Element.pattern E.Element.made) E.Element.pattern values.now call) }
+    ensures answer { result ≡ putting (N.Code.Meaning.need (N.Encoder.width encoder.old)) (N.Encoder.width encoder.old) (N.Encoder.room encoder.old) (N.Encoder.accepted encoder.old) (patterns (put_of (kind_of E.Element.WIDTH E.Element.pattern E.Element.made) E.Element.pattern values.now call)) }
+    ensures accepted { N.Encoder.accepted encoder.new ≡ accepted_by (N.Code.Meaning.need (N.Encoder.width encoder.old)) (N.Encoder.width encoder.old) (N.Encoder.room encoder.old) (N.Encoder.accepted encoder.old) (put_of (kind_of E.Element.WIDTH E.Element.pattern E.Element.made) E.Element.pattern values.now call) }
     ensures width { N.Encoder.width encoder.new ≡ N.Encoder.width encoder.old }
     ensures room { N.Encoder.room encoder.new ≡ N.Encoder.room encoder.old }
 {
@@ -141,9 +141,9 @@ pub(crate) fn take_all<D: Decoder, E: Element>(
     cells: &mut [E],
     takes: &mut [Take<E>],
 )
-    ensures answers { takes.new ≡ takes_answered (kind_of E.Element.bits E.Element.pattern E.Element.made) E.Element.made (D.Decoder.width decoder.old) (length cells.old) (D.Decoder.waiting decoder.old) takes.old }
-    ensures cells { cells.new ≡ cells_after (kind_of E.Element.bits E.Element.pattern E.Element.made) E.Element.made (D.Decoder.width decoder.old) (length cells.old) (D.Decoder.waiting decoder.old) cells.old takes.old }
-    ensures left { D.Decoder.waiting decoder.new ≡ left_after (D.Decoder.width decoder.old) (D.Decoder.waiting decoder.old) (asks_of (kind_of E.Element.bits E.Element.pattern E.Element.made) E.Element.made (length cells.old) takes.old) }
+    ensures answers { takes.new ≡ takes_answered (kind_of E.Element.WIDTH E.Element.pattern E.Element.made) E.Element.made (D.Decoder.width decoder.old) (length cells.old) (D.Decoder.waiting decoder.old) takes.old }
+    ensures cells { cells.new ≡ cells_after (kind_of E.Element.WIDTH E.Element.pattern E.Element.made) E.Element.made (D.Decoder.width decoder.old) (length cells.old) (D.Decoder.waiting decoder.old) cells.old takes.old }
+    ensures left { D.Decoder.waiting decoder.new ≡ left_after (D.Decoder.width decoder.old) (D.Decoder.waiting decoder.old) (asks_of (kind_of E.Element.WIDTH E.Element.pattern E.Element.made) E.Element.made (length cells.old) takes.old) }
     ensures page { D.Decoder.page decoder.new ≡ D.Decoder.page decoder.old }
     ensures width { D.Decoder.width decoder.new ≡ D.Decoder.width decoder.old }
 {
@@ -159,9 +159,9 @@ fn take_call<D: Decoder, E: Element>(
     cells: &mut [E],
     call: TakeCall,
 ) -> TakeAnswer<E>
-    ensures answer { result ≡ answer_of (kind_of E.Element.bits E.Element.pattern E.Element.made) E.Element.made call (taken_by (D.Decoder.width decoder.old) (ask_of (kind_of E.Element.bits E.Element.pattern E.Element.made) (length cells.old) call) (D.Decoder.waiting decoder.old)) }
-    ensures cells { cells.new ≡ cells_by (kind_of E.Element.bits E.Element.pattern E.Element.made) E.Element.made cells.old call (taken_by (D.Decoder.width decoder.old) (ask_of (kind_of E.Element.bits E.Element.pattern E.Element.made) (length cells.old) call) (D.Decoder.waiting decoder.old)) }
-    ensures left { D.Decoder.waiting decoder.new ≡ (taken_by (D.Decoder.width decoder.old) (ask_of (kind_of E.Element.bits E.Element.pattern E.Element.made) (length cells.old) call) (D.Decoder.waiting decoder.old)).left }
+    ensures answer { result ≡ answer_of (kind_of E.Element.WIDTH E.Element.pattern E.Element.made) E.Element.made call (taken_by (D.Decoder.width decoder.old) (ask_of (kind_of E.Element.WIDTH E.Element.pattern E.Element.made) (length cells.old) call) (D.Decoder.waiting decoder.old)) }
+    ensures cells { cells.new ≡ cells_by (kind_of E.Element.WIDTH E.Element.pattern E.Element.made) E.Element.made cells.old call (taken_by (D.Decoder.width decoder.old) (ask_of (kind_of E.Element.WIDTH E.Element.pattern E.Element.made) (length cells.old) call) (D.Decoder.waiting decoder.old)) }
+    ensures left { D.Decoder.waiting decoder.new ≡ (taken_by (D.Decoder.width decoder.old) (ask_of (kind_of E.Element.WIDTH E.Element.pattern E.Element.made) (length cells.old) call) (D.Decoder.waiting decoder.old)).left }
     ensures length { length cells.new ≡ length cells.old }
     ensures page { D.Decoder.page decoder.new ≡ D.Decoder.page decoder.old }
     ensures width { D.Decoder.width decoder.new ≡ D.Decoder.width decoder.old }
@@ -184,9 +184,9 @@ fn fill_part<D: Decoder, E: Element>(
     to: usize,
 ) -> Result<usize, Declined>
     requires { (from ≤ to) × (to ≤ length cells.old) }
-    ensures answer { result ≡ (taking_as E.Element.bits (D.Decoder.width decoder.old) (to - from) (D.Decoder.waiting decoder.old)).answer }
-    ensures cells { cells.new ≡ overwrite cells.old from (map E.Element.made (taking_as E.Element.bits (D.Decoder.width decoder.old) (to - from) (D.Decoder.waiting decoder.old)).values) }
-    ensures left { D.Decoder.waiting decoder.new ≡ (taking_as E.Element.bits (D.Decoder.width decoder.old) (to - from) (D.Decoder.waiting decoder.old)).left }
+    ensures answer { result ≡ (taking_as E.Element.WIDTH (D.Decoder.width decoder.old) (to - from) (D.Decoder.waiting decoder.old)).answer }
+    ensures cells { cells.new ≡ overwrite cells.old from (map E.Element.made (taking_as E.Element.WIDTH (D.Decoder.width decoder.old) (to - from) (D.Decoder.waiting decoder.old)).values) }
+    ensures left { D.Decoder.waiting decoder.new ≡ (taking_as E.Element.WIDTH (D.Decoder.width decoder.old) (to - from) (D.Decoder.waiting decoder.old)).left }
     ensures length { length cells.new ≡ length cells.old }
     ensures page { D.Decoder.page decoder.new ≡ D.Decoder.page decoder.old }
     ensures width { D.Decoder.width decoder.new ≡ D.Decoder.width decoder.old }

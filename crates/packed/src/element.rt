@@ -6,12 +6,12 @@ ghost use Rattle.std.proofs.Common.{of_z, to_z, rules};
 /// A type of column elements, by its patterns.
 ///
 /// At a number type the ghost members range over all numbers, so the laws have the premise `proper`, which `to_pattern` hands
-/// out. The clauses speak of `bits`; `width_bits` says that the constant is that number.
+/// out.
 pub trait Element: Copy {
+    /// How many bits a pattern has, 1 to 64.
     const WIDTH: u32;
 
-    /// How many bits a pattern has.
-    ghost bits: { ℕ };
+    ghost WIDTH: { ℕ };
 
     /// The numbers that are values of the type.
     ghost proper: { Self → Type 0 };
@@ -19,11 +19,6 @@ pub trait Element: Copy {
     ghost pattern: { Self → ℕ };
 
     ghost made: { ℕ → Self };
-
-    /// The width, 1 to 64.
-    fn width_bits() -> u32
-        ensures value { result ≡ bits }
-        ensures bound { (1 ≤ result) × (result ≤ 64) };
 
     /// A value's pattern.
     fn to_pattern(self) -> u64
@@ -34,17 +29,19 @@ pub trait Element: Copy {
     fn from_pattern(p: u64) -> Self
         ensures { result ≡ made p };
 
-    ghost below: { (v : Self) → proper v → pattern v < 2 ^ bits };
+    ghost narrow: { (1 ≤ WIDTH) × (WIDTH ≤ 64) };
+
+    ghost below: { (v : Self) → proper v → pattern v < 2 ^ WIDTH };
 
     ghost makes: { (v : Self) → proper v → made (pattern v) ≡ v };
 
-    ghost wraps: { (p : ℕ) → p < 2 ^ 64 → pattern (made p) ≡ p % 2 ^ bits };
+    ghost wraps: { (p : ℕ) → p < 2 ^ 64 → pattern (made p) ≡ p % 2 ^ WIDTH };
 }
 
 impl Element for u8 {
     const WIDTH: u32 = 8;
 
-    ghost bits = { 8 };
+    ghost WIDTH = { 8 };
 
     ghost proper = { λ v. v < 2 ^ 8 };
 
@@ -52,15 +49,13 @@ impl Element for u8 {
 
     ghost made = { λ p. p % 2 ^ 8 };
 
+    ghost narrow = { Prim.search rules };
+
     ghost below = { Prim.search rules };
 
     ghost makes = { Prim.search rules };
 
     ghost wraps = { Prim.search rules };
-
-    fn width_bits() -> u32 {
-        Self::WIDTH
-    }
 
     fn to_pattern(self) -> u64 {
         self as u64
@@ -74,7 +69,7 @@ impl Element for u8 {
 impl Element for u16 {
     const WIDTH: u32 = 16;
 
-    ghost bits = { 16 };
+    ghost WIDTH = { 16 };
 
     ghost proper = { λ v. v < 2 ^ 16 };
 
@@ -82,15 +77,13 @@ impl Element for u16 {
 
     ghost made = { λ p. p % 2 ^ 16 };
 
+    ghost narrow = { Prim.search rules };
+
     ghost below = { Prim.search rules };
 
     ghost makes = { Prim.search rules };
 
     ghost wraps = { Prim.search rules };
-
-    fn width_bits() -> u32 {
-        Self::WIDTH
-    }
 
     fn to_pattern(self) -> u64 {
         self as u64
@@ -104,7 +97,7 @@ impl Element for u16 {
 impl Element for u32 {
     const WIDTH: u32 = 32;
 
-    ghost bits = { 32 };
+    ghost WIDTH = { 32 };
 
     ghost proper = { λ v. v < 2 ^ 32 };
 
@@ -112,15 +105,13 @@ impl Element for u32 {
 
     ghost made = { λ p. p % 2 ^ 32 };
 
+    ghost narrow = { Prim.search rules };
+
     ghost below = { Prim.search rules };
 
     ghost makes = { Prim.search rules };
 
     ghost wraps = { Prim.search rules };
-
-    fn width_bits() -> u32 {
-        Self::WIDTH
-    }
 
     fn to_pattern(self) -> u64 {
         self as u64
@@ -134,7 +125,7 @@ impl Element for u32 {
 impl Element for u64 {
     const WIDTH: u32 = 64;
 
-    ghost bits = { 64 };
+    ghost WIDTH = { 64 };
 
     ghost proper = { λ v. v < 2 ^ 64 };
 
@@ -142,15 +133,13 @@ impl Element for u64 {
 
     ghost made = { λ p. p % 2 ^ 64 };
 
+    ghost narrow = { Prim.search rules };
+
     ghost below = { Prim.search rules };
 
     ghost makes = { Prim.search rules };
 
     ghost wraps = { Prim.search rules };
-
-    fn width_bits() -> u32 {
-        Self::WIDTH
-    }
 
     fn to_pattern(self) -> u64 {
         self
@@ -164,7 +153,7 @@ impl Element for u64 {
 impl Element for i32 {
     const WIDTH: u32 = 32;
 
-    ghost bits = { 32 };
+    ghost WIDTH = { 32 };
 
     ghost proper = { FitsSigned w32 };
 
@@ -172,15 +161,13 @@ impl Element for i32 {
 
     ghost made = { λ p. to_z w32 (p % 2 ^ 32) };
 
+    ghost narrow = { Prim.search rules };
+
     ghost below = { Prim.search rules };
 
     ghost makes = { Prim.search rules };
 
     ghost wraps = { Prim.search rules };
-
-    fn width_bits() -> u32 {
-        Self::WIDTH
-    }
 
     fn to_pattern(self) -> u64 {
         self.cast_unsigned() as u64
@@ -194,7 +181,7 @@ impl Element for i32 {
 impl Element for i64 {
     const WIDTH: u32 = 64;
 
-    ghost bits = { 64 };
+    ghost WIDTH = { 64 };
 
     ghost proper = { FitsSigned w64 };
 
@@ -202,15 +189,13 @@ impl Element for i64 {
 
     ghost made = { λ p. to_z w64 (p % 2 ^ 64) };
 
+    ghost narrow = { Prim.search rules };
+
     ghost below = { Prim.search rules };
 
     ghost makes = { Prim.search rules };
 
     ghost wraps = { Prim.search rules };
-
-    fn width_bits() -> u32 {
-        Self::WIDTH
-    }
 
     fn to_pattern(self) -> u64 {
         self.cast_unsigned()

@@ -2,8 +2,10 @@
 ghost use Rattle.packed.specs.Faults.{told};
 ghost use Rattle.std.specs.Prelude.{◌≡◌};
 
+use std::fmt;
+
 /// What is wrong with a page.
-#[derive(Clone, Copy)]
+#[derive(Clone, Copy, Debug, PartialEq, Eq)]
 pub enum FaultKind {
     /// a VLQ does not fit 64 bits
     VlqTooLarge,
@@ -28,7 +30,7 @@ pub enum FaultKind {
 }
 
 /// The layer that finds a fault.
-#[derive(Clone, Copy)]
+#[derive(Clone, Copy, Debug, PartialEq, Eq)]
 pub enum Layer {
     Bits,
     Column,
@@ -36,10 +38,19 @@ pub enum Layer {
 }
 
 /// A fault and its place: a byte offset from the page's first byte, and for too few values how many there were.
-#[derive(Clone, Copy)]
+#[derive(Clone, Copy, Debug, PartialEq, Eq)]
 pub struct Fault {
     pub kind: FaultKind,
     pub place: usize,
+}
+
+impl FaultKind {
+    /// The fault of this kind at a place.
+    pub fn at(self, place: usize) -> Fault
+        ensures { result ≡ record { kind = self; place = place } }
+    {
+        Fault { kind: self, place }
+    }
 }
 
 impl Fault {
@@ -70,5 +81,23 @@ impl Fault {
             FaultKind::TooFewValues => Layer::Count,
             _ => Layer::Column,
         }
+    }
+}
+
+impl fmt::Display for Layer {
+    fn fmt<W: fmt::Write>(&self, f: &mut fmt::Formatter<W>) -> fmt::Result {
+        f.write_str(match self {
+            Layer::Bits => "bits",
+            Layer::Column => "column",
+            Layer::Count => "count",
+        })
+    }
+}
+
+impl fmt::Display for Fault {
+    fn fmt<W: fmt::Write>(&self, f: &mut fmt::Formatter<W>) -> fmt::Result {
+        let number = self.number();
+        let place = self.place;
+        write!(f, "fault {number} at {place}")
     }
 }

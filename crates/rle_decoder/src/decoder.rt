@@ -249,10 +249,10 @@ impl<'a> RleDecoder<'a> {
 
     // The same, unless the element has too few bits.
     fn take_as<E: Element>(&mut self, cells: &mut [E]) -> Result<usize, Declined>
-        ensures answer { result ≡ (taking_as E.Element.bits (width_of self.old) (length cells.old) (waiting_of self.old)).answer }
-        ensures cells { cells.new ≡ overwrite cells.old 0 (map E.Element.made (taking_as E.Element.bits (width_of self.old) (length cells.old) (waiting_of self.old)).values) }
-        ensures left { waiting_of self.new ≡ (taking_as E.Element.bits (width_of self.old) (length cells.old) (waiting_of self.old)).left }
-        ensures below { AllByRecursion (λ p. p < 2 ^ 64) (taking_as E.Element.bits (width_of self.old) (length cells.old) (waiting_of self.old)).values }
+        ensures answer { result ≡ (taking_as E.Element.WIDTH (width_of self.old) (length cells.old) (waiting_of self.old)).answer }
+        ensures cells { cells.new ≡ overwrite cells.old 0 (map E.Element.made (taking_as E.Element.WIDTH (width_of self.old) (length cells.old) (waiting_of self.old)).values) }
+        ensures left { waiting_of self.new ≡ (taking_as E.Element.WIDTH (width_of self.old) (length cells.old) (waiting_of self.old)).left }
+        ensures below { AllByRecursion (λ p. p < 2 ^ 64) (taking_as E.Element.WIDTH (width_of self.old) (length cells.old) (waiting_of self.old)).values }
         ensures page { page_of self.new ≡ page_of self.old }
         ensures width { width_of self.new ≡ width_of self.old }
     {
@@ -300,9 +300,9 @@ impl<'a> RleDecoder<'a> {
 
     // Whether elements of a type have fewer bits than the column.
     fn is_too_wide_for<E: Element>(&self) -> bool
-        ensures { result ≡ nat_lt E.Element.bits (width_of self.now) }
+        ensures { result ≡ nat_lt E.Element.WIDTH (width_of self.now) }
     {
-        (E::width_bits() as usize) < self.width
+        (E::WIDTH as usize) < self.width
     }
 
     // Reads the page's first run.

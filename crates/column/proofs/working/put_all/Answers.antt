@@ -14,7 +14,7 @@ pub overflow_add-count : goal.overflow_add-count
 overflow_add-count g c =
     let e = c.loop-i.encoder in
     let w = g.N.Encoder.width e in
-    let k = kind_of g.E.Element.bits g.E.Element.pattern g.E.Element.made in
+    let k = kind_of g.E.Element.WIDTH g.E.Element.pattern g.E.Element.made in
     let ps = patterns (put_of k g.E.Element.pattern c.args.values.now (get_or c.loop-i.puts c.loop-i.i c.index-puts-i.result).call) in
     let bound = put-bound (g.N.Code.Meaning.need w) w (g.N.Encoder.room e) (g.N.Encoder.accepted e) ps c.loop-i.invariant.2 in
     let same = ap (λ (x : PutList). x.count) c.put_call-answer.ensures.answer in
@@ -31,7 +31,7 @@ loop-i-preserved g c =
     let values = c.args.values.now in
     let acc = g.N.Encoder.accepted c.loop-i.encoder in
     let call = (get_or c.loop-i.puts i c.index-puts-i.result).call in
-    let k = kind_of g.E.Element.bits f g.E.Element.made in
+    let k = kind_of g.E.Element.WIDTH f g.E.Element.made in
     let ps = patterns (put_of k f values call) in
     let answer = c.put_call-answer.ensures.answer ∙ ap₂ (λ x y. putting (g.N.Code.Meaning.need x) x y acc ps) inv.3 inv.4 in
     let accepted = c.put_call-answer.ensures.accepted ∙ ap₂ (λ x y. accepted_by (g.N.Code.Meaning.need x) x y acc (put_of k f values call)) inv.3 inv.4 in
@@ -52,5 +52,5 @@ returns g c =
     let inv = c.loop-i.invariant in
     let e = c.args.encoder.now in
     let w = g.N.Encoder.width e in
-    let all = puts-all (kind_of g.E.Element.bits g.E.Element.pattern g.E.Element.made) g.E.Element.pattern c.args.values.now (g.N.Code.Meaning.need w) w (g.N.Encoder.room e) (g.N.Encoder.accepted e) c.args.puts.now c.loop-i.i (g.N.Encoder.accepted c.loop-i.encoder) c.loop-i.puts inv.0 c.loop-i-test.false in
+    let all = puts-all (kind_of g.E.Element.WIDTH g.E.Element.pattern g.E.Element.made) g.E.Element.pattern c.args.values.now (g.N.Code.Meaning.need w) w (g.N.Encoder.room e) (g.N.Encoder.accepted e) c.args.puts.now c.loop-i.i (g.N.Encoder.accepted c.loop-i.encoder) c.loop-i.puts inv.0 c.loop-i-test.false in
     record { answers = all.0; accepted = all.1; count = inv.1; width = inv.3; room = inv.4 }

@@ -11,7 +11,7 @@ pub loop-i-preserved : goal.loop-i-preserved
 loop-i-preserved g c =
     let inv = c.loop-i.invariant in
     let i = c.loop-i.i in
-    let k = kind_of g.E.Element.bits g.E.Element.pattern g.E.Element.made in
+    let k = kind_of g.E.Element.WIDTH g.E.Element.pattern g.E.Element.made in
     let made = g.E.Element.made in
     let start = c.args.decoder.now in
     let cells = c.args.cells.now in
@@ -34,5 +34,5 @@ returns g c =
     let inv = c.loop-i.invariant in
     let start = c.args.decoder.now in
     let cells = c.args.cells.now in
-    let all = takes_all (kind_of g.E.Element.bits g.E.Element.pattern g.E.Element.made) g.E.Element.made (g.D.Decoder.width start) (length cells) (g.D.Decoder.waiting start) cells c.args.takes.now c.loop-i.i (g.D.Decoder.waiting c.loop-i.decoder) c.loop-i.cells c.loop-i.takes inv.0 c.loop-i-test.false in
+    let all = takes_all (kind_of g.E.Element.WIDTH g.E.Element.pattern g.E.Element.made) g.E.Element.made (g.D.Decoder.width start) (length cells) (g.D.Decoder.waiting start) cells c.args.takes.now c.loop-i.i (g.D.Decoder.waiting c.loop-i.decoder) c.loop-i.cells c.loop-i.takes inv.0 c.loop-i-test.false in
     record { answers = all.0; cells = all.1; left = all.2; page = inv.2; width = inv.3 }

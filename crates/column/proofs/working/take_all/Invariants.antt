@@ -5,7 +5,7 @@ use Rattle.column.proofs.working.take_all.Given as goal
 
 abbrev pub invariant-loop-i : goal.invariant-loop-i
 invariant-loop-i g l =
-    TakesWorked (kind_of g.E.Element.bits g.E.Element.pattern g.E.Element.made) g.E.Element.made (g.D.Decoder.width l.initial.decoder) (length l.initial.cells) (g.D.Decoder.waiting l.initial.decoder) l.initial.cells
+    TakesWorked (kind_of g.E.Element.WIDTH g.E.Element.pattern g.E.Element.made) g.E.Element.made (g.D.Decoder.width l.initial.decoder) (length l.initial.cells) (g.D.Decoder.waiting l.initial.decoder) l.initial.cells
     l.initial.takes l.i (g.D.Decoder.waiting l.decoder) l.cells l.takes
     × (length l.cells ≡ length l.initial.cells)
     × (g.D.Decoder.page l.decoder ≡ g.D.Decoder.page l.initial.decoder)

@@ -10,7 +10,7 @@ pub returns-then-is_too_wide_for : goal.returns-then-is_too_wide_for
 returns-then-is_too_wide_for g c =
     let d = c.args.self.now in
     let o = c.args.cells.now in
-    let refused = narrow g.E.Element.bits d.width (length o) (waiting_of d) (sym c.if-is_too_wide_for.ensures) in
+    let refused = narrow g.E.Element.WIDTH d.width (length o) (waiting_of d) (sym c.if-is_too_wide_for.ensures) in
     record {
       answer = sym (ap (λ t. t.answer) refused);
       cells = sym (overwrite-none o 0) ∙ ap (λ t. overwrite o 0 (map g.E.Element.made t.values)) (sym refused);

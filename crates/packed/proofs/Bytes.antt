@@ -1,5 +1,5 @@
 -- The laws of bits in bytes: where a field lies, how fields are cut and joined.
-use Rattle.std.proofs.Common.{◌≡◌, ℕ, zero, suc, ◌+◌, ◌-◌, ◌*◌, ◌/◌, ◌%◌, ◌^◌, ◌<◌, ◌≤◌, List, [], ◌∷◌, ◌++◌, length, get_or, take, drop, set, replicate, sym, refl, ap, ◌∙◌, subst, ap₂, zero-le, lt_of_lt_of_le, le_of_suc-le-suc, not-suc-le-zero, add-zero, add_assoc, mul-le-mul_right, mod-lt, mod-eq_of_lt, mul_assoc, suc-mul, mul_comm, add_comm, suc-add, pow-suc, mul-zero, zero-add, zero-mul, mul-suc, div-one, mul-div_cancel, add-one, arith, lit<, pow_pos, pow_mono, pow-add, shr-shr}
+use Rattle.std.proofs.Common.{suc-le-suc, ◌≡◌, ℕ, zero, suc, ◌+◌, ◌-◌, ◌*◌, ◌/◌, ◌%◌, ◌^◌, ◌<◌, ◌≤◌, List, [], ◌∷◌, ◌++◌, length, get_or, take, drop, set, replicate, sym, refl, ap, ◌∙◌, subst, ap₂, zero-le, lt_of_lt_of_le, le_of_suc-le-suc, not-suc-le-zero, add-zero, add_assoc, mul-le-mul_right, mod-lt, mod-eq_of_lt, mul_assoc, suc-mul, mul_comm, add_comm, suc-add, pow-suc, mul-zero, zero-add, zero-mul, mul-suc, div-one, mul-div_cancel, add-one, arith, lit<, pow_pos, pow_mono, pow-add, shr-shr}
 use lib.Pow.{field, mod-mod-pow, mod-pow-add}
 use native.Mathlib.Nat.{pow-zero, mod-mod, div-eq_of_lt, mul-mod_left, add-mul-mod_self_left}
 use Rattle.std.proofs.lemmas.List.{take_more_set, take_rest}
@@ -237,6 +237,12 @@ cells_at-rest f s j w k =
     ap (λ l. cells_at f l 0 w k) (take_rest s j)
     ∙ cells_at-drop f s j 0 w k
     ∙ ap (λ p. cells_at f s p w k) (add-zero (8 * j))
+
+-- where no cell is asked for, any place will do
+pub cells_from : {A : Type 0} (f : ℕ → A) (s : List ℕ) (p q w k : ℕ) → (0 < k → p ≡ q) → cells_at f s p w k ≡ cells_at f s q w k
+unfolding cells_at
+cells_from f s p q w zero same = refl
+cells_from f s p q w (suc k) same = ap (λ x. cells_at f s x w (suc k)) (same (suc-le-suc zero-le))
 
 -- a whole group of eight lies inside
 pub group-inside : (n w len group : ℕ) → 8 * (group + 1) ≤ n → n * w ≤ 8 * len → group * w + w ≤ len

@@ -19,9 +19,9 @@ from-seven n k h high =
     (cases_lt k 7)
 
 -- the highest bit of a number that is not 0 is bit k
-length-by-bits : (n k : ℕ) → 2 ^ k ≤ n → n < 2 * 2 ^ k → k / 7 + 1 ≡ length (vlq n)
-length-by-bits n k low high =
-    vlq-ind (λ n. (k : ℕ) → 2 ^ k ≤ n → n < 2 * 2 ^ k → k / 7 + 1 ≡ length (vlq n))
+by-highest : (n k : ℕ) → 2 ^ k ≤ n → n < 2 * 2 ^ k → 1 + k / 7 ≡ length (vlq n)
+by-highest n k low high =
+    vlq-ind (λ n. (k : ℕ) → 2 ^ k ≤ n → n < 2 * 2 ^ k → 1 + k / 7 ≡ length (vlq n))
     (λ n h k low high. omega (arith, ap length (vlq-last n h), below-seven n k h low))
     (λ n h rest k low high.
     let some : 7 ≤ k = from-seven n k h high in
@@ -34,5 +34,5 @@ at-least-one zero = ap length (vlq-last 1 (lit< tt)) ∙ sym (ap length (vlq-las
 at-least-one (suc n) = ap (λ m. length (vlq m)) (omega arith)
 
 -- 0 takes one byte, as 1 does
-pub length_by_bits : (n m k : ℕ) → m ≡ max n 1 → 2 ^ k ≤ m → m < 2 * 2 ^ k → k / 7 + 1 ≡ length (vlq n)
-length_by_bits n m k is low high = length-by-bits m k low high ∙ ap (λ x. length (vlq x)) is ∙ at-least-one n
+pub length_by_bits : (n m k : ℕ) → m ≡ max n 1 → 2 ^ k ≤ m → m < 2 * 2 ^ k → 1 + k / 7 ≡ length (vlq n)
+length_by_bits n m k is low high = by-highest m k low high ∙ ap (λ x. length (vlq x)) is ∙ at-least-one n

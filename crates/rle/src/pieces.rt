@@ -1,5 +1,5 @@
 //! The bytes of one run or group, before they go into a page.
-ghost use Rattle.std.specs.Prelude.{◌≡◌, ◌^◌, ◌≤◌, length, take};
+ghost use Rattle.std.specs.Prelude.{◌≡◌, ◌+◌, ◌^◌, ◌<◌, ◌≤◌, length, take};
 ghost use Rattle.bit_writer.specs.Writer.{AllFit};
 ghost use Rattle.rle.specs.Runs.{bytes_of, repeated, value_bytes};
 ghost use Rattle.packed.specs.Digits.{digits, number};
@@ -16,11 +16,19 @@ pub fn value_bytes(width: usize) -> usize
     width.div_ceil(8)
 }
 
-/// How many bytes `n` takes as a VLQ: one for each seven bits, and one for 0.
+/// How many bytes `n` takes as a VLQ.
 pub fn vlq_length(n: u64) -> usize
     ensures { result ≡ length (vlq n) }
 {
-    n.max(1).ilog2() as usize / 7 + 1
+    1 + continuing_bytes(n)
+}
+
+// How many of a VLQ's bytes have another behind them: one for each seven bits below the highest.
+fn continuing_bytes(n: u64) -> usize
+    ensures value { 1 + result ≡ length (vlq n) }
+    ensures short { result < 10 }
+{
+    n.max(1).ilog2() as usize / 7
 }
 
 /// The bytes of a run that repeats a value.

@@ -18,11 +18,11 @@ use Rattle.packed.proofs.Overwrite.{overwrite-none, overwrite-overwrite}
 
 -- ---- a part of a buffer
 
--- a part that was written as a slice is written over
-pub put_mid-overwrite : (s part new : List ℕ) (at k : ℕ) → part ≡ new → length new ≡ k → put_mid at k s part ≡ overwrite s at new
+-- what `s[at..end]` holds after a write to it is written over s
+pub put_mid-overwrite : (s part new : List ℕ) (at end : ℕ) → part ≡ new → at + length new ≡ end → put_mid at (end - at) s part ≡ overwrite s at new
 unfolding overwrite
-put_mid-overwrite s part new at k is long =
-    ap₂ (λ p n. take at s ++ (p ++ drop n (drop at s))) is (sym long)
+put_mid-overwrite s part new at end is long =
+    ap₂ (λ p n. take at s ++ (p ++ drop n (drop at s))) is (omega (arith, long))
     ∙ ap (λ rest. take at s ++ (new ++ rest)) (drop-drop (length new) at s)
     ∙ sym (append_assoc (take at s) new (drop (at + length new) s))
 

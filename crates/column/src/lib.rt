@@ -4,6 +4,8 @@
 mod coding;
 mod declined;
 mod head_reading;
+mod meaning;
+mod pass;
 mod putting;
 mod whole_page;
 mod working;
@@ -11,10 +13,12 @@ mod working;
 ghost use Rattle.column.specs.Refusals.{numbered};
 ghost use Rattle.std.specs.Prelude.{◌≡◌};
 
-pub use coding::{Coding, Decoder, Encoder, Meaning, Pass};
+pub use coding::{Coding, Decoder, Encoder};
 pub use declined::Declined;
 pub use head_reading::HeadReading;
+pub use meaning::Meaning;
 pub use packed::{Element, Fault, FaultKind, Layer};
+pub use pass::Pass;
 pub use putting::{PutList, put_list};
 use std::error::Error;
 use std::fmt;

@@ -1,5 +1,5 @@
 //! Working a whole page: puts, finish, open and takes, with every answer written down.
-ghost use Rattle.std.specs.Prelude.{◌≡◌, ◌+◌, ◌≤◌, length};
+ghost use Rattle.std.specs.Prelude.{◌≡◌, ◌+◌, ◌≤◌, length, Some};
 ghost use Rattle.column.specs.Putting.{putting};
 ghost use Rattle.column.specs.Taking.{after_taking};
 ghost use Rattle.column.specs.Trips.{after_call, after_calls, patterns};
@@ -39,6 +39,15 @@ pub struct Step<C, A> {
     pub answer: Option<A>,
 }
 
+impl<C: Copy, A: Copy> Step<C, A> {
+    // Writes the answer down.
+    fn set_answer(&mut self, answer: A)
+        ensures { self.new ≡ record { call = self.old.call; answer = Some answer } }
+    {
+        self.answer = Some(answer);
+    }
+}
+
 /// A call that puts, and how many of its values were accepted and why the next was not.
 pub type Put<E> = Step<PutCall<E>, PutList>;
 
@@ -60,7 +69,7 @@ pub(crate) fn put_all<'a, N: Encoder<'a>, E: Element>(
     for put in puts.iter_mut() {
         let answer = put_call(encoder, values, put.call);
         count += answer.count;
-        put.answer = Some(answer);
+        put.set_answer(answer);
     }
     count
 }
@@ -104,7 +113,8 @@ pub(crate) fn take_all<D: Decoder, E: Element>(
     ensures state { D.state decoder.new ≡ decoder_after E.Element (length cells.old) (D.state decoder.old) takes.old }
 {
     for take in takes.iter_mut() {
-        take.answer = Some(take_call(decoder, cells, take.call));
+        let answer = take_call(decoder, cells, take.call);
+        take.set_answer(answer);
     }
 }
 

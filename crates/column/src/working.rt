@@ -9,6 +9,7 @@ use crate::coding::{Decoder, Encoder};
 use crate::declined::Declined;
 use crate::putting::{PutList, put_list};
 use packed::Element;
+use std::ops::Range;
 
 /// A call that puts: one value, or a list of them as a part of a slice.
 #[derive(Clone, Copy, Debug, PartialEq, Eq)]
@@ -84,22 +85,19 @@ fn put_call<'a, N: Encoder<'a>, E: Element>(
 {
     match call {
         PutCall::One(v) => PutList::from(encoder.put(v)),
-        PutCall::List { from, to } => {
-            let (from, to) = cut(from, to, values.len());
-            put_list(encoder, &values[from..to])
-        }
+        PutCall::List { from, to } => put_list(encoder, &values[cut(from, to, values.len())]),
     }
 }
 
 // A part of a slice of `len`, cut to it.
-fn cut(from: usize, to: usize, len: usize) -> (usize, usize)
-    ensures from { result.0 ≡ cut_from from len }
-    ensures to { result.1 ≡ cut_to from to len }
-    ensures in_order { result.0 ≤ result.1 }
-    ensures inside { result.1 ≤ len }
+fn cut(from: usize, to: usize, len: usize) -> Range<usize>
+    ensures start { result.start ≡ cut_from from len }
+    ensures end { result.end ≡ cut_to from to len }
+    ensures in_order { result.start ≤ result.end }
+    ensures inside { result.end ≤ len }
 {
     let start = from.min(len);
-    (start, to.min(len).max(start))
+    start..to.min(len).max(start)
 }
 
 // Makes the calls, one after another.
@@ -131,8 +129,8 @@ fn take_call<D: Decoder, E: Element>(
     match call {
         TakeCall::Get => TakeAnswer::Got(decoder.get()),
         TakeCall::Batch { from, to } => {
-            let (from, to) = cut(from, to, cells.len());
-            TakeAnswer::Took(decoder.get_batch(&mut cells[from..to]))
+            let part = cut(from, to, cells.len());
+            TakeAnswer::Took(decoder.get_batch(&mut cells[part]))
         }
         TakeCall::Skip(count) => TakeAnswer::Took(decoder.skip(count)),
     }

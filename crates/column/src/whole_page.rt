@@ -15,7 +15,7 @@ use packed::Element;
 /// the last come at most seven zeros, then the end, and no fault (`returned` in `worked`, for element types that keep the third
 /// law, as these do). The same holds over every list of calls (`trip`).
 //
-// The slices are parameters: of a struct of lent slices a clause names what they hold afterwards by places, as `script.exit.1.now`.
+// The slices are parameters: a clause names what the lent slices of a struct hold afterwards by places, `script.exit.1.now`.
 pub fn work_page<'a, C: Coding<'a>, P: Element, E: Element>(
     width: u32,
     out: &'a mut [u8],

@@ -62,9 +62,12 @@ pub(crate) fn put_all<'a, N: Encoder<'a>, E: Element>(
     puts: &mut [Put<E>],
 ) -> usize
     requires { length (N.state encoder.old).accepted ≤ 2147483647 }
-    ensures answers { puts.new ≡ puts_answered E.Element values.now N.Code.need (N.state encoder.old) puts.old }
-    ensures state { N.state encoder.new ≡ after_calls N.Code.need (N.state encoder.old) (puts_of E.Element values.now puts.old) }
-    ensures count { length (N.state encoder.old).accepted + result ≡ length (N.state encoder.new).accepted }
+    ensures answers { puts.new
+        ≡ puts_answered E.Element values.now N.Code.need (N.state encoder.old) puts.old }
+    ensures state { N.state encoder.new
+        ≡ after_calls N.Code.need (N.state encoder.old) (puts_of E.Element values.now puts.old) }
+    ensures count { length (N.state encoder.old).accepted + result
+        ≡ length (N.state encoder.new).accepted }
 {
     let mut count: usize = 0;
     for put in puts.iter_mut() {
@@ -80,8 +83,10 @@ fn put_call<'a, N: Encoder<'a>, E: Element>(
     values: &[E],
     call: PutCall<E>,
 ) -> PutList
-    ensures answer { result ≡ putting N.Code.need (N.state encoder.old) (patterns (put_of E.Element values.now call)) }
-    ensures state { N.state encoder.new ≡ after_call N.Code.need (N.state encoder.old) (put_of E.Element values.now call) }
+    ensures answer { result
+        ≡ putting N.Code.need (N.state encoder.old) (patterns (put_of E.Element values.now call)) }
+    ensures state { N.state encoder.new
+        ≡ after_call N.Code.need (N.state encoder.old) (put_of E.Element values.now call) }
 {
     match call {
         PutCall::One(v) => PutList::from(encoder.put(v)),
@@ -106,9 +111,12 @@ pub(crate) fn take_all<D: Decoder, E: Element>(
     cells: &mut [E],
     takes: &mut [Take<E>],
 )
-    ensures answers { takes.new ≡ takes_answered E.Element (length cells.old) (D.state decoder.old) takes.old }
-    ensures cells { cells.new ≡ cells_after E.Element (length cells.old) (D.state decoder.old) cells.old takes.old }
-    ensures state { D.state decoder.new ≡ decoder_after E.Element (length cells.old) (D.state decoder.old) takes.old }
+    ensures answers { takes.new
+        ≡ takes_answered E.Element (length cells.old) (D.state decoder.old) takes.old }
+    ensures cells { cells.new
+        ≡ cells_after E.Element (length cells.old) (D.state decoder.old) cells.old takes.old }
+    ensures state { D.state decoder.new
+        ≡ decoder_after E.Element (length cells.old) (D.state decoder.old) takes.old }
 {
     for take in takes.iter_mut() {
         let answer = take_call(decoder, cells, take.call);
@@ -121,9 +129,12 @@ fn take_call<D: Decoder, E: Element>(
     cells: &mut [E],
     call: TakeCall,
 ) -> TakeAnswer<E>
-    ensures answer { result ≡ answer_of E.Element call (taken_from E.Element (length cells.old) (D.state decoder.old) call) }
-    ensures cells { cells.new ≡ cells_by E.Element cells.old call (taken_from E.Element (length cells.old) (D.state decoder.old) call) }
-    ensures state { D.state decoder.new ≡ after_taking (taken_from E.Element (length cells.old) (D.state decoder.old) call) (D.state decoder.old) }
+    ensures answer { result
+        ≡ answer_of E.Element call (taken_from E.Element (length cells.old) (D.state decoder.old) call) }
+    ensures cells { cells.new
+        ≡ cells_by E.Element cells.old call (taken_from E.Element (length cells.old) (D.state decoder.old) call) }
+    ensures state { D.state decoder.new
+        ≡ after_taking (taken_from E.Element (length cells.old) (D.state decoder.old) call) (D.state decoder.old) }
     ensures length { length cells.new ≡ length cells.old }
 {
     match call {

@@ -1,3 +1,4 @@
+pub mod Coding
 pub mod Heads
 pub mod Pages
 pub mod Putting

@@ -1,6 +1,4 @@
-mod Answering
-mod First
-mod Loading
 mod Opened
-mod Passing
-mod Turns
+mod Runs
+mod Small
+mod Taking

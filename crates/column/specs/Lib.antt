@@ -1,7 +1,9 @@
+pub mod Coding
 pub mod Heads
 pub mod Pages
 pub mod Putting
 pub mod Refusals
+pub mod States
 pub mod Taking
 pub mod Trips
 pub mod Working

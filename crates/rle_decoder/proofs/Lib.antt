@@ -1,4 +1,3 @@
 mod Opened
 mod Runs
-mod Small
 mod Taking

@@ -12,11 +12,11 @@ use Rattle.rle.specs.Hybrid.{Hybrid}
 use Rattle.rle.specs.Lenient.{Lenient}
 use Rattle.rle.specs.Reading.{stopped, run_at, follow, waiting_at, opens, reads}
 use Rattle.rle.specs.declared.runs.Found.{Found}
-use Rattle.rle.specs.declared.runs.Found.TheVariants.{End, Repeated, Packed}
+use Rattle.rle.specs.declared.runs.Found.TheVariants.{Repeated, Packed}
 use Rattle.rle.proofs.Later.{waiting-step}
 use Rattle.rle.proofs.Leniencies.{lenient-from}
 use Rattle.rle.proofs.ReadBack.{hybrid-opens}
-use Rattle.rle_decoder.specs.Run.{stand_of}
+use Rattle.rle.specs.Found.{found}
 
 -- what is proved of every page, whatever opening it answers
 pub standing : (w : ℕ) (s vs : List ℕ) → Hybrid w s vs → reads w s ≡ opened (record { values = vs; ending = end })
@@ -26,13 +26,12 @@ pub lenient : (w : ℕ) (s : List ℕ) → ((i : ℕ) → get_or s i 0 < 256) �
 lenient w s bytes vs read = lenient-from w s (All-from_get_or (λ b. b < 256) s 0 (λ i _. bytes i)) (suc (length s)) 0 vs (omega arith) read
 
 -- a first run that is no fault opens the page
-found-opens : (run : Option Found) (r : Waiting) → opens (stand_of (Ok run)) r ≡ opened r
+found-opens : (run : Option Found) (r : Waiting) → opens (found (Ok run)) r ≡ opened r
 found-opens None r = refl
-found-opens (Some End) r = refl
 found-opens (Some (Repeated count value next)) r = refl
 found-opens (Some (Packed count start next)) r = refl
 
-pub reads-opened : (w : ℕ) (s : List ℕ) (run : Option Found) → stand_of (Ok run) ≡ run_at w s 0 → reads w s ≡ opened (behind 0 (follow w s (waiting_at w s) (stand_of (Ok run))))
+pub reads-opened : (w : ℕ) (s : List ℕ) (run : Option Found) → found (Ok run) ≡ run_at w s 0 → reads w s ≡ opened (behind 0 (follow w s (waiting_at w s) (found (Ok run))))
 reads-opened w s run stand =
     ap (λ st. opens st (waiting_at w s 0)) (sym stand)
     ∙ found-opens run (waiting_at w s 0)

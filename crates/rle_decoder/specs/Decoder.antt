@@ -1,26 +1,28 @@
 -- What a decoder means: the values that wait in its page, and how they end.
 use Rattle.std.specs.Prelude.{◌≡◌, ℕ, ◌-◌, ◌<◌, ◌≤◌, Bool, true, false, List, length, Ok, Err, Result}
 use Rattle.column.specs.Pages.{end, fault, Waiting, nothing}
+use Rattle.column.specs.States.{DecoderState}
 use Rattle.column.specs.Taking.{behind}
 use Rattle.column.specs.declared.declined.Declined.{Declined}
 use Rattle.column.specs.declared.declined.Declined.TheVariants.{Refused, Faulted}
+use Rattle.rle.specs.Found.{found}
 use Rattle.rle.specs.Reading.{follow, waiting_at}
-use Rattle.rle_decoder.specs.Run.{stand_of, count_of}
+use Rattle.rle_decoder.specs.Run.{count_of}
 use Rattle.rle_decoder.specs.declared.decoder.RleDecoder.{RleDecoder}
 
 abbrev pub page_of : RleDecoder → List ℕ
 page_of d = d.page.now
 
-abbrev pub width_of : RleDecoder → ℕ
-width_of d = d.width
-
 -- The values of the current run that were not taken, and what waits behind the run.
 abbrev pub waiting_of : RleDecoder → Waiting
-waiting_of d = behind d.taken (follow d.width (page_of d) (waiting_at d.width (page_of d)) (stand_of d.run))
+waiting_of d = behind d.taken (follow d.width (page_of d) (waiting_at d.width (page_of d)) (found d.run))
+
+abbrev pub state_of : RleDecoder → DecoderState
+state_of d = record { page = page_of d; width = d.width; waiting = waiting_of d }
 
 -- How many values of the current run are left.
 abbrev pub left_of : RleDecoder → ℕ
-left_of d = count_of (stand_of d.run) - d.taken
+left_of d = count_of (found d.run) - d.taken
 
 -- A decoder that took k of the values that waited.
 pub record Took (before after : RleDecoder) (k : ℕ) : Type 0 where

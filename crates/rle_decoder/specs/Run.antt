@@ -1,15 +1,6 @@
--- What a run that was read has: its values, and where the page has them.
-use Rattle.std.specs.Prelude.{ℕ, ◌+◌, ◌*◌, Some, None, Ok, Err, Option, Result}
-use Rattle.packed.specs.declared.faults.Fault.{Fault}
-use Rattle.rle.specs.Found.{found}
-use Rattle.rle.specs.declared.runs.Found.{Found}
+-- What stands at a place of a page: how many values it has, where they end, and where the next run begins.
+use Rattle.std.specs.Prelude.{ℕ, ◌+◌, ◌*◌, Some, None, Option}
 use Rattle.rle.specs.Reading.{Stand, ended, stopped, repeats, packs}
-
--- What stands where a run was read.
-abbrev pub stand_of : Result (Option Found) Fault → Stand
-stand_of (Ok None) = ended
-stand_of (Ok (Some run)) = found (Ok run)
-stand_of (Err f) = stopped f
 
 -- How many values a run has.
 abbrev pub count_of : Stand → ℕ

@@ -1,9 +1,9 @@
-use Rattle.std.proofs.Common.{leb, ◌≡◌, Ok, sym, refl, ap, ◌∙◌, zero-le}
+use Rattle.std.proofs.Common.{leb, ◌≡◌, Ok, Some, sym, refl, ap, ◌∙◌, zero-le}
 use Rattle.std.proofs.lemmas.Bool.{cond-false, leb-true}
 use Rattle.std.proofs.lemmas.Result.{err_from_is_err_and}
 use Rattle.column.specs.Taking.{head_fault}
 use Rattle.rle.specs.Reading.{reads, run_at}
-use Rattle.rle_decoder.specs.Run.{stand_of}
+use Rattle.rle.specs.Found.{found}
 use Rattle.rle_decoder.proofs.Opened.{standing, lenient, reads-opened, open-shut, fault-shuts}
 use Rattle.rle_decoder.proofs.Runs.{run_in_page, run_fits}
 use Rattle.rle_decoder.proofs.decoder.RleDecoder.open_page.Goals as goal
@@ -13,7 +13,7 @@ returns-then-not-is_allowed c =
     let w = c.args.width in
     let s = c.args.page.now in
     record {
-      opening = cond-false (leb w 64) (head_fault (reads w s)) _ (sym c.if-not-is_allowed.ensures);
+      opening = cond-false (leb w 64) (head_fault (reads w s)) _ (sym c.if-not-is_allowed.ensures) ∙ ap Some (sym c.into.ensures);
       standing = standing w s;
       lenient = lenient w s (λ i. (c.type_inv.page i).fits);
     }
@@ -25,7 +25,7 @@ returns-in_err-run c =
     let small = leb-true w 64 (sym c.if-not-is_allowed.ensures) in
     let p = err_from_is_err_and c.from_residual.result c.from_residual.ensures.1 in
     rw (p.1, p.2) record {
-      opening = fault-shuts w s c.in_err-run.field-0.0 small (sym c.read_run.ensures ∙ ap stand_of c.in_err-run.was);
+      opening = fault-shuts w s c.in_err-run.field-0.0 small (sym c.run_at.ensures ∙ ap found c.in_err-run.was);
       standing = standing w s;
       lenient = lenient w s (λ i. (c.type_inv.page i).fits);
     }
@@ -35,12 +35,12 @@ invariant_of-result c =
     let w = c.args.width in
     let s = c.args.page.now in
     let small = leb-true w 64 (sym c.if-not-is_allowed.ensures) in
-    let stand : stand_of (Ok c.in_ok-run.run') ≡ run_at w s 0 = sym (ap stand_of c.in_ok-run.was) ∙ c.read_run.ensures in
+    let stand : found (Ok c.in_ok-run.run') ≡ run_at w s 0 = sym (ap found c.in_ok-run.was) ∙ c.run_at.ensures in
     record {
       narrow = small;
       counted = zero-le;
-      in_page = run_in_page w s 0 (stand_of (Ok c.in_ok-run.run')) small stand;
-      value_fits = run_fits w s 0 (stand_of (Ok c.in_ok-run.run')) small stand;
+      in_page = run_in_page w s 0 (found (Ok c.in_ok-run.run')) small stand;
+      value_fits = run_fits w s 0 (found (Ok c.in_ok-run.run')) small stand;
     }
 
 pub returns : goal.returns
@@ -49,7 +49,7 @@ returns c =
     let s = c.args.page.now in
     let small = leb-true w 64 (sym c.if-not-is_allowed.ensures) in
     let run = c.in_ok-run.run' in
-    let stand : stand_of (Ok run) ≡ run_at w s 0 = sym (ap stand_of c.in_ok-run.was) ∙ c.read_run.ensures in
+    let stand : found (Ok run) ≡ run_at w s 0 = sym (ap found c.in_ok-run.was) ∙ c.run_at.ensures in
     let read = reads-opened w s run stand in
     record {
       opening = (open-shut w s _ small read, read, refl, refl);

@@ -1,7 +1,8 @@
-use Rattle.std.proofs.Common.{◌≡◌, ℕ, ◌+◌, ◌-◌, ◌≤◌, List, [], ◌++◌, map, length, take, drop, sym, refl, ap, ap₂, ◌∙◌, zero-le, zero-add, take-add, append_assoc, arith}
+use Rattle.std.proofs.Common.{◌≡◌, ℕ, ◌+◌, ◌-◌, ◌≤◌, List, map, length, take, drop, sym, refl, ap, ◌∙◌, zero-le, zero-add, take-add, arith}
 use Rattle.std.proofs.lemmas.Grind.{common_steps}
-use Rattle.std.proofs.lemmas.List.{append-nil, drop-drop, drop_all, take_all, length-drop, length-map, length-take, map-append}
+use Rattle.std.proofs.lemmas.List.{length-map, length-take, map-append}
 use borrow.Rule.Slice.PartMut.{put_mid}
+use Rattle.column.proofs.Parts.{length-part, overwrite-part}
 use Rattle.packed.specs.Bytes.{overwrite}
 use Rattle.packed.proofs.Overwrite.{overwrite-none, overwrite-overwrite}
 use Rattle.rle_decoder.specs.Decoder.{waiting_of}
@@ -13,17 +14,6 @@ returns-in_err-check_element-clause-cells g c = grind (arith, common_steps, over
 
 pub loop-taken-init : goal.loop-taken-init
 loop-taken-init g c = record { took = took_none c.args.self.now; most = zero-le; cells = sym (overwrite-none c.args.cells.now 0) }
-
--- a write to the first of the cells behind k
-overwrite-rest : {A : Type 0} (o new : List A) (k : ℕ) → k ≤ length o → put_mid k (length o - k) o (overwrite (take (length o - k) (drop k o)) 0 new) ≡ overwrite o k new
-unfolding overwrite
-overwrite-rest o new k inside =
-    let rest : take (length o - k) (drop k o) ≡ drop k o = take_all (length o - k) (drop k o) (omega (arith, length-drop k o)) in
-    let none : drop (length o - k) (drop k o) ≡ [] = drop_all (length o - k) (drop k o) (omega (arith, length-drop k o)) in
-    ap₂ (λ xs ys. take k o ++ ((new ++ drop (0 + length new) xs) ++ ys)) rest none
-    ∙ ap (λ xs. take k o ++ xs) (append-nil (new ++ drop (0 + length new) (drop k o)))
-    ∙ ap (λ xs. take k o ++ (new ++ xs)) (ap (λ n. drop n (drop k o)) (zero-add (length new)) ∙ drop-drop (length new) k o)
-    ∙ sym (append_assoc (take k o) new (drop (k + length new) o))
 
 -- j values behind the first k
 overwrite-more : {A : Type 0} (f : ℕ → A) (o now : List A) (vs : List ℕ) (k j : ℕ) → k ≤ length vs → now ≡ overwrite o 0 (map f (take k vs))
@@ -48,13 +38,15 @@ loop-taken-preserved g c =
     let filled = took_more a c.loop-taken.self c.refill.new.self k 0 k (omega arith) inv.took c.refill.ensures.took in
     let fits : k ≤ length now = omega (arith, inv.most, c.loop-taken.auto.cells) in
     let left : (waiting_of c.refill.new.self).values ≡ drop k (waiting_of a).values = ap (λ r. r.values) filled.left in
+    let new = map made (take j (waiting_of c.refill.new.self).values) in
+    let short : length new ≤ length now - k = omega (arith, length-map (take j (waiting_of c.refill.new.self).values) made, length-take j (waiting_of c.refill.new.self).values, c.take_run-taken.ensures.count, length-part now k (length now - k) (omega arith)) in
     let took = took_more a c.refill.new.self c.take_run-taken.new.self k j (k + j) refl filled c.take_run-taken.ensures.took in
     record {
       took = took;
       most = omega (arith, inv.most, c.take_run-taken.ensures.count, c.loop-taken.auto.cells);
       cells =
           ap (put_mid k (length now - k) now) c.take_run-taken.ensures.cells
-          ∙ overwrite-rest now (map made (take j (waiting_of c.refill.new.self).values)) k fits
+          ∙ overwrite-part now k (length now - k) (omega arith) new short
           ∙ ap (λ vs. overwrite now k (map made (take j vs))) left
           ∙ overwrite-more made c.args.cells.now now (waiting_of a).values k j inv.took.most inv.cells;
     }

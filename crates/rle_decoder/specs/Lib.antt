@@ -1,1 +1,3 @@
 pub mod Decoder
+pub mod Run
+pub mod Small

@@ -3,6 +3,7 @@ pub mod Heads
 pub mod Pages
 pub mod Putting
 pub mod Refusals
+pub mod States
 pub mod Taking
 pub mod Trips
 pub mod Working

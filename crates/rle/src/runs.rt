@@ -67,12 +67,7 @@ fn header_at(page: &[u8], at: usize) -> Result<Option<(u64, usize)>, Fault>
 {
     match read_vlq(page, at) {
         Ok(header) => Ok(Some(header)),
-        Err(
-            Fault {
-                kind: FaultKind::DataEnds,
-                ..
-            },
-        ) => Ok(None),
+        Err(fault) if fault.kind == FaultKind::DataEnds => Ok(None),
         Err(fault) => Err(fault),
     }
 }

@@ -199,12 +199,9 @@ impl<'a> BitReader<'a> {
         ensures bound { result ≤ count }
         ensures whole { result < count → (self.now.bit_offset + result * num_bits) % 8 ≡ 0 }
     {
-        for k in 0..count.min(8) {
-            if (self.bit_offset + k * num_bits) % 8 == 0 {
-                return k;
-            }
-        }
-        count
+        (0..count.min(8))
+            .find(|k| (self.bit_offset + *k * num_bits) % 8 == 0)
+            .unwrap_or(count)
     }
 
     // One by one.

@@ -6,7 +6,7 @@ use Rattle.std.proofs.lemmas.List.{take_more_set, take_rest}
 use Rattle.std.specs.Int.{from_le_bytes, w64}
 use Rattle.packed.specs.Digits.{number, digits}
 use Rattle.packed.specs.Bytes.{bits_at, cells_at, overwrite}
-use Rattle.packed.proofs.Overwrite.{drop-overwrite, overwrite-overwrite}
+use Rattle.packed.proofs.Overwrite.{drop-overwrite}
 use Rattle.packed.proofs.Digits.{number-take, number-mod, number-drop, number-below, number_append, number-digit, number_digits, length_digits}
 
 -- k digits of j bits each are j k bits
@@ -218,13 +218,6 @@ module _ {A : Type 0} (f : ℕ → A) (s : List ℕ) where
       ∙ ap₂ (λ l y. l ++ y ∷ []) filled (is ∙ ap f value)
       ∙ sym (cells_at-push p w k)
 
-  -- k cells more, written behind those before
-  pub fill-cells : (out : List A) (at p w j k : ℕ) → at + j ≤ length out → overwrite (overwrite out at (cells_at f s p w j)) (at + j) (cells_at f s (p + j * w) w k) ≡ overwrite out at (cells_at f s p w (j + k))
-  fill-cells out at p w j k room =
-      ap (λ n. overwrite (overwrite out at (cells_at f s p w j)) (at + n) (cells_at f s (p + j * w) w k)) (sym (length-cells_at p w j))
-      ∙ overwrite-overwrite out at (cells_at f s p w j) (cells_at f s (p + j * w) w k) (omega arith)
-      ∙ ap (overwrite out at) (sym (cells_at-append p w j k))
-
 pub cells_at-drop : {A : Type 0} (f : ℕ → A) (s : List ℕ) (j p w k : ℕ) → cells_at f (drop j s) p w k ≡ cells_at f s (8 * j + p) w k
 unfolding cells_at
 cells_at-drop f s j p w zero = refl
@@ -245,8 +238,8 @@ cells_from f s p q w zero same = refl
 cells_from f s p q w (suc k) same = ap (λ x. cells_at f s x w (suc k)) (same (suc-le-suc zero-le))
 
 -- a whole group of eight lies inside
-pub group-inside : (n w len group : ℕ) → 8 * (group + 1) ≤ n → n * w ≤ 8 * len → group * w + w ≤ len
-group-inside n w len group h room =
+pub group_inside : (n w len group : ℕ) → 8 * (group + 1) ≤ n → n * w ≤ 8 * len → group * w + w ≤ len
+group_inside n w len group h room =
     let some : 8 * (group + 1) * w ≤ n * w = mul-le-mul_right w h in
     let same : 8 * (group + 1) * w ≡ 8 * (group * w + w) = mul_assoc 8 (group + 1) w ∙ ap (λ x. 8 * x) (ap (λ x. x * w) (add-one group) ∙ suc-mul group w) in
     omega arith

@@ -14,14 +14,16 @@ pub fn write_vlq(out: &mut [u8], at: usize, v: u64) -> usize
     ensures fewest { (s : List ℕ) (p n : ℕ) → read_vlq s p ≡ Ok (v, n) → result ≤ n }
 {
     let mut rest = v;
-    let mut i = at;
-    while !is_last(rest) {
-        out[i] = 128 + (rest % 128) as u8;
+    let field = &mut out[at..];
+    for (i, byte) in field.iter_mut().enumerate() {
+        if is_last(rest) {
+            *byte = rest as u8;
+            return i + 1;
+        }
+        *byte = 128 + (rest % 128) as u8;
         rest /= 128;
-        i += 1;
     }
-    out[i] = rest as u8;
-    i + 1 - at
+    unreachable!()
 }
 
 // Whether a number is one digit, with none to follow.

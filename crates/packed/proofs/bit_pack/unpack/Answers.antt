@@ -1,7 +1,7 @@
 use Rattle.std.proofs.Common.{◌≡◌, ◌+◌, ◌*◌, ◌-◌, ◌++◌, length, refl, ap, ap₂, sym, ◌∙◌, mul_assoc, arith, length-take, length-drop}
 use Rattle.std.proofs.lemmas.Slice.{take-put_mid}
 use Rattle.packed.specs.Bytes.{cells_at}
-use Rattle.packed.proofs.Bytes.{group-inside, cells_at-append, cells_at-rest}
+use Rattle.packed.proofs.Bytes.{group_inside, cells_at-append, cells_at-rest}
 use Rattle.packed.proofs.bit_pack.unpack.Goals as goal
 
 pub loop-group-init : goal.loop-group-init
@@ -10,22 +10,22 @@ loop-group-init g c = refl
 
 pub overflow_mul-group : goal.overflow_mul-group
 overflow_mul-group g c =
-    let inside = group-inside (length c.args.output.now) c.args.num_bits (length c.args.input.now) c.loop-group.group (omega arith) c.requires.room in
+    let inside = group_inside (length c.args.output.now) c.args.num_bits (length c.args.input.now) c.loop-group.group (omega arith) c.requires.room in
     record { fits = omega arith }
 
 pub slice_bounds-unpack_group-count : goal.slice_bounds-unpack_group-count
 slice_bounds-unpack_group-count g c =
-    let inside = group-inside (length c.args.output.now) c.args.num_bits (length c.args.input.now) c.loop-group.group (omega arith) c.requires.room in
+    let inside = group_inside (length c.args.output.now) c.args.num_bits (length c.args.input.now) c.loop-group.group (omega arith) c.requires.room in
     omega arith
 
 pub slice_bounds-unpack_group-start : goal.slice_bounds-unpack_group-start
 slice_bounds-unpack_group-start g c =
-    let inside = group-inside (length c.args.output.now) c.args.num_bits (length c.args.input.now) c.loop-group.group (omega arith) c.requires.room in
+    let inside = group_inside (length c.args.output.now) c.args.num_bits (length c.args.input.now) c.loop-group.group (omega arith) c.requires.room in
     omega arith
 
 pub unpack_group-requires-clause-room : goal.unpack_group-requires-clause-room
 unpack_group-requires-clause-room g c =
-    let inside = group-inside (length c.args.output.now) c.args.num_bits (length c.args.input.now) c.loop-group.group (omega arith) c.requires.room in
+    let inside = group_inside (length c.args.output.now) c.args.num_bits (length c.args.input.now) c.loop-group.group (omega arith) c.requires.room in
     simp (length-take, length-drop) (omega arith)
 
 pub loop-group-preserved : goal.loop-group-preserved

@@ -1,4 +1,4 @@
-use Rattle.std.proofs.Common.{◌≡◌, ◌+◌, ◌*◌, ◌%◌, ◌^◌, get_or, drop, Ok, Err, sym, ap, ◌∙◌, ⊎_elim, arith}
+use Rattle.std.proofs.Common.{◌≡◌, ◌+◌, ◌*◌, ◌%◌, ◌^◌, get_or, drop, Ok, Err, sym, ap, ◌∙◌, arith}
 use Rattle.std.proofs.lemmas.Bool.{ltb-true, ltb-false}
 use Rattle.packed.proofs.VlqLaws.{number_small, so_far_more, read_here, too-large-here, ten-continue, read-long, read-long-cut}
 use Rattle.packed.proofs.vlq.read_tenth.Goals as goal
@@ -25,12 +25,12 @@ returns-then-byte-lt128 c =
     ap Err c.at.ensures
     ∙ sym
     (elim c.then-byte-lt128.branch [
-      then-byte-lt128-via-then-byte-lt128 w ↦
-        too-large-here c.args.page.now c.args.at 9 c.args.low so (omega arith) (omega arith) w.if-byte-lt128.true (omega arith)
-    | then-byte-lt128-via-else-byte-lt128+then-at-page w ↦
-        read-long c.args.page.now c.args.at
-        (ten-continue c.args.page.now c.args.at _ (so_far_more c.args.page.now c.args.at 9 c.args.low so (omega arith) w.if-byte-lt128.false))
-        (omega arith)
+      | then-byte-lt128-via-then-byte-lt128 w ↦
+          too-large-here c.args.page.now c.args.at 9 c.args.low so (omega arith) (omega arith) w.if-byte-lt128.true (omega arith)
+      | then-byte-lt128-via-else-byte-lt128+then-at-page w ↦
+          read-long c.args.page.now c.args.at
+          (ten-continue c.args.page.now c.args.at _ (so_far_more c.args.page.now c.args.at 9 c.args.low so (omega arith) w.if-byte-lt128.false))
+          (omega arith)
     ])
 
 pub returns : goal.returns

@@ -1,7 +1,6 @@
 -- A whole page: from the check to the open.
-use Rattle.std.proofs.Common.{◌≡◌, ℕ, ◌+◌, ◌-◌, ◌≤◌, Bool, true, false, T, leb, List, [], ◌∷◌, length, take, drop, replicate, Some, None, Ok, Err, Option, sym, refl, ap, ◌∙◌, subst, zero-add, arith, take_at}
+use Rattle.std.proofs.Common.{◌≡◌, ℕ, ◌+◌, ◌-◌, ◌≤◌, Bool, true, false, T, leb, List, [], ◌∷◌, length, take, drop, replicate, Some, None, Ok, Err, Option, sym, refl, ap, ◌∙◌, subst, zero-add, take_at}
 use native.Mathlib.Nat.{sub-zero}
-use Rattle.std.proofs.lemmas.List.{length-append}
 use Rattle.std.proofs.lemmas.Bool.{cond_both, leb-true}
 use Rattle.column.specs.Coding.{page_of, unmade}
 use Rattle.column.specs.Pages.{Reading, refused, opened, Waiting}
@@ -31,11 +30,6 @@ not-shut false r e w allowed is s = allowed
 pub page-front : (page : List ℕ) (room n : ℕ) (buffer : List ℕ) → n ≡ length page → buffer ≡ finished page room → take (n - 0) (drop 0 buffer) ≡ page
 page-front page room n buffer long is =
     ap (λ k. take k buffer) (sub-zero n ∙ long) ∙ ap (take (length page)) is ∙ take_at page (replicate (room - length page) 0) (length page) refl
-
-pub page-inside : (page : List ℕ) (room n : ℕ) (buffer : List ℕ) → n ≡ length page → buffer ≡ finished page room → n ≤ length buffer
-page-inside page room n buffer long is =
-    let all = ap length is ∙ length-append page (replicate (room - length page) 0) in
-    omega arith
 
 -- one function of three
 pub at-three : {A X Y Z : Type 0} (f : X → Y → Z → A) {x x' : X} {y y' : Y} {z z' : Z} → x ≡ x' → y ≡ y' → z ≡ z' → f x y z ≡ f x' y' z'

@@ -1,7 +1,7 @@
 -- Puts, one after another.
-use Rattle.std.proofs.Common.{◌≡◌, ℕ, suc, ◌+◌, ◌^◌, ◌<◌, ◌≤◌, cond, ltb, leb, List, [], ◌∷◌, ◌++◌, length, get_or, take, drop, Some, None, Ok, Err, Option, sym, refl, ap, ◌∙◌, subst, zero-le, add-zero, add_assoc, zero-add, arith}
+use Rattle.std.proofs.Common.{◌≡◌, ℕ, suc, ◌+◌, ◌^◌, ◌<◌, ◌≤◌, cond, ltb, leb, List, [], ◌∷◌, ◌++◌, length, get_or, map, take, drop, Some, None, Ok, Err, Option, sym, refl, ap, ◌∙◌, subst, zero-le, add-zero, add_assoc, zero-add, arith}
 use Rattle.std.proofs.ByRecursion.{All-push}
-use Rattle.std.proofs.lemmas.List.{append-nil, append_assoc, drop_more, drop_all, length-append, length_push, length-take-le, take_more}
+use Rattle.std.proofs.lemmas.List.{append-nil, append_assoc, drop_more, drop_all, get_or-map, length-append, length-map, length_push, length-take-le, take_more}
 use Rattle.std.proofs.lemmas.Bool.{cond_both, leb-true, ltb-true}
 use Rattle.column.specs.Coding.{Holds}
 use Rattle.column.specs.Putting.{accepting, after_put, answered, as_list, counted, fitting, putting, unput}
@@ -50,11 +50,11 @@ module _ (need : ℕ → List ℕ → ℕ) (s : EncoderState) (ps : List ℕ) wh
         ∙ ap (λ q. shifted i (putting need now (q ∷ drop (i + 1) ps))) is
         ∙ ap (λ x. shifted i (counted x (putting need (with_more now (p ∷ [])) (drop (i + 1) ps)))) e
 
-    pub put_refused : (p : ℕ) (e : Refusal) → i < length ps → get_or ps i 0 ≡ p → unput need now p ≡ Some e → record { count = i; refusal = Some e } ≡ putting need s ps
-    put_refused p e h is u = ap (λ n. record { count = n; refusal = Some e }) (sym (add-zero i)) ∙ sym (next-put p (Some e) h is u)
+    refused-at : (p : ℕ) (e : Refusal) → i < length ps → get_or ps i 0 ≡ p → unput need now p ≡ Some e → record { count = i; refusal = Some e } ≡ putting need s ps
+    refused-at p e h is u = ap (λ n. record { count = n; refusal = Some e }) (sym (add-zero i)) ∙ sym (next-put p (Some e) h is u)
 
-    pub put-more : (p : ℕ) → i < length ps → get_or ps i 0 ≡ p → unput need now p ≡ None → PutsOn need s ps (i + 1) (with_more now (p ∷ []))
-    put-more p h is u = record {
+    more-at : (p : ℕ) → i < length ps → get_or ps i 0 ≡ p → unput need now p ≡ None → PutsOn need s ps (i + 1) (with_more now (p ∷ []))
+    more-at p h is u = record {
       added =
           ap (λ n. with_more n (p ∷ [])) on.added
           ∙ ap (with_list s)
@@ -66,9 +66,32 @@ module _ (need : ℕ → List ℕ → ℕ) (s : EncoderState) (ps : List ℕ) wh
           ∙ ap (λ n. record { count = n; refusal = (putting need (with_more now (p ∷ [])) (drop (i + 1) ps)).refusal }) (sym (add_assoc i 1 (putting need (with_more now (p ∷ [])) (drop (i + 1) ps)).count));
     }
 
-    pub all-put : length ps ≤ i → record { count = i; refusal = None } ≡ putting need s ps
+    all-at : length ps ≤ i → record { count = i; refusal = None } ≡ putting need s ps
     unfolding putting
-    all-put h = sym (on.rest ∙ ap (λ xs. shifted i (putting need now xs)) (drop_all i ps h) ∙ ap (λ n. record { count = n; refusal = None }) (add-zero i))
+    all-at h = sym (on.rest ∙ ap (λ xs. shifted i (putting need now xs)) (drop_all i ps h) ∙ ap (λ n. record { count = n; refusal = None }) (add-zero i))
+
+-- the same of values with their patterns, by what their puts answered
+module _ {E : Type 0} (f : E → ℕ) (values : List E) (need : ℕ → List ℕ → ℕ) (s : EncoderState) (i : ℕ) (now : EncoderState) (on : PutsOn need s (map f values) i now) where
+  module _ (v : E) (inside : i < length values) (is : v ≡ get_or values i v) where
+    inside-patterns : i < length (map f values)
+    inside-patterns = subst (λ n. i < n) (sym (length-map values f)) inside
+
+    pattern-is : get_or (map f values) i 0 ≡ f v
+    pattern-is = get_or-map f values i v 0 inside ∙ ap f (sym is)
+
+    pub put_refused : (e : Refusal) → answered (unput need now (f v)) ≡ Err e → record { count = i; refusal = Some e } ≡ putting need s (map f values)
+    put_refused e answer = refused-at need s (map f values) i now on (f v) e inside-patterns pattern-is (was-refused (unput need now (f v)) answer)
+
+    pub put-more : (t : EncoderState) {u : Unit {0}} → answered (unput need now (f v)) ≡ Ok u → t ≡ after_put need now (f v) → PutsOn need s (map f values) (i + 1) t
+    put-more t answer after =
+        let added = not-refused (unput need now (f v)) answer in
+        subst (PutsOn need s (map f values) (i + 1)) (sym (after ∙ ap (λ u. with_list now (accepting u now.accepted (f v ∷ []))) added))
+        (more-at need s (map f values) i now on (f v) inside-patterns pattern-is added)
+
+  pub all-put : length values ≤ i → i ≤ length values → record { count = length values; refusal = None } ≡ putting need s (map f values)
+  all-put most least =
+      let all : length values ≡ i = omega arith in
+      ap (λ n. record { count = n; refusal = None }) all ∙ all-at need s (map f values) i now on (subst (λ n. n ≤ i) (sym (length-map values f)) most)
 
 -- one pattern is put as a list of it
 module _ (need : ℕ → List ℕ → ℕ) (s : EncoderState) (p : ℕ) where

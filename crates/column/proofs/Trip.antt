@@ -3,7 +3,7 @@ use Rattle.std.proofs.Common.{◌≡◌, ℕ, zero, suc, ◌^◌, ◌<◌, ◌�
 use Rattle.std.specs.List.{AllByRecursion}
 use Rattle.std.proofs.ByRecursion.{All-append, All-drop, All-take, All-weaker}
 use Rattle.std.proofs.lemmas.Bool.{cond_both, ltb-false}
-use Rattle.column.specs.Pages.{end, Waiting, opened}
+use Rattle.column.specs.Pages.{end, Waiting, opened, with_zeros}
 use Rattle.column.specs.Coding.{Holds}
 use Rattle.column.specs.Putting.{Column}
 use Rattle.column.specs.States.{EncoderState, fresh}
@@ -111,9 +111,9 @@ zeros-below : (w k : ℕ) → Below w (replicate k 0)
 zeros-below w zero = tt
 zeros-below w (suc k) = (pow_pos w, zeros-below w k)
 
-pub comes_back : (w : ℕ) (l : List ℕ) (k : ℕ) (asks : List Asking) → w ≤ 64 → Below w l → k ≤ 7 → ComesBack w l (record { values = l ++ replicate k 0; ending = end }) asks
+pub comes_back : (w : ℕ) (l : List ℕ) (k : ℕ) (asks : List Asking) → w ≤ 64 → Below w l → k ≤ 7 → ComesBack w l (with_zeros l k) asks
 comes_back w l k asks narrow below few =
-    let r : Waiting = record { values = l ++ replicate k 0; ending = end } in
+    let r = with_zeros l k in
     record {
       zeros = k;
       few = few;
@@ -126,13 +126,13 @@ comes_back w l k asks narrow below few =
 
 module _ {C : Type 0} (code : Meaning.Ghosts C)
     (narrow : (w : ℕ) → T (code.allows w) → w ≤ 64)
-    (back : (w : ℕ) (l : List ℕ) → T (code.allows w) → Column w l → (k : ℕ) × (k ≤ 7) × (code.reads w (length l) (code.page w l) ≡ opened (record { values = l ++ replicate k 0; ending = end })))
+    (back : (w : ℕ) (l : List ℕ) → T (code.allows w) → Column w l → (k : ℕ) × (k ≤ 7) × (code.reads w (length l) (code.page w l) ≡ opened (with_zeros l k)))
     (within : (w : ℕ) (l : List ℕ) → T (code.allows w) → Column w l → length (code.page w l) ≤ code.need w l) where
   pub returned : (s : EncoderState) (asks : List Asking) → Holds code s → Returned code s asks
   returned s asks h =
       let b = back s.width s.accepted h.allowed h.column in
       record {
-        waiting = record { values = s.accepted ++ replicate b.0 0; ending = end };
+        waiting = with_zeros s.accepted b.0;
         fits = omega (arith, within s.width s.accepted h.allowed h.column, h.fits);
         opens = b.2;
         back = comes_back s.width s.accepted b.0 asks (narrow s.width h.allowed) h.column.below b.1;

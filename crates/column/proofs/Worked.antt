@@ -50,21 +50,20 @@ module _ {E : Type 0} (e : Element.Ghosts E) (values : List E) (need : ℕ → L
   puts-start = record { answers = refl; state = refl; walked = record { rest = refl; long = refl } }
 
   module _ (i : ℕ) (t : EncoderState) (now : List (Put E)) (on : PutsWorked e values need s calls i t now) where
-    pub puts-more : (d : Put E) (a : PutList) (t' : EncoderState) → i < length now
+    pub puts-more : (d y : Put E) (a : PutList) (t' : EncoderState) → i < length now → y ≡ record { call = (get_or now i d).call; answer = Some a }
         → a ≡ putting need t (patterns (put_of e values (get_or now i d).call))
         → t' ≡ after_call need t (put_of e values (get_or now i d).call)
-        → PutsWorked e values need s calls (i + 1) t' (set now i (record { call = (get_or now i d).call; answer = Some a }))
+        → PutsWorked e values need s calls (i + 1) t' (set now i y)
     unfolding puts_answered after_calls
-    puts-more d a t' inside answer state =
+    puts-more d y a t' inside is answer state =
         let c = get_or now i d in
-        let y : Put E = record { call = c.call; answer = Some a } in
         let others = drop (i + 1) calls in
         let walk = drop-walked calls now i on.walked inside d in
         record {
           answers =
               on.answers
               ∙ ap (λ xs. take i now ++ puts_answered e values need t xs) walk
-              ∙ ap₂ (λ (x : Put E) (z : EncoderState). take i now ++ x ∷ puts_answered e values need z others) (ap (λ (x : PutList). record { call = c.call; answer = Some x }) (sym answer)) (sym state)
+              ∙ ap₂ (λ (x : Put E) (z : EncoderState). take i now ++ x ∷ puts_answered e values need z others) (ap (λ (x : PutList). record { call = c.call; answer = Some x }) (sym answer) ∙ sym is) (sym state)
               ∙ sym (append_assoc (take i now) (y ∷ []) (puts_answered e values need t' others))
               ∙ ap (λ xs. xs ++ puts_answered e values need t' others) (sym (take_more_set now i y inside));
           state =
@@ -96,22 +95,21 @@ module _ {E : Type 0} (e : Element.Ghosts E) (n : ℕ) (d : DecoderState) (cells
   takes-start = record { answers = refl; cells_are = refl; state = refl; walked = record { rest = refl; long = refl } }
 
   module _ (i : ℕ) (t : DecoderState) (cells-now : List E) (now : List (Take E)) (on : TakesWorked e n d cells calls i t cells-now now) where
-    pub takes-more : (b : Take E) (a : TakeAnswer E) (t' : DecoderState) (cells' : List E) → i < length now
+    pub takes-more : (b y : Take E) (a : TakeAnswer E) (t' : DecoderState) (cells' : List E) → i < length now → y ≡ record { call = (get_or now i b).call; answer = Some a }
         → a ≡ answer_of e (get_or now i b).call (taken_from e n t (get_or now i b).call)
         → cells' ≡ cells_by e cells-now (get_or now i b).call (taken_from e n t (get_or now i b).call)
         → t' ≡ after_taking (taken_from e n t (get_or now i b).call) t
-        → TakesWorked e n d cells calls (i + 1) t' cells' (set now i (record { call = (get_or now i b).call; answer = Some a }))
+        → TakesWorked e n d cells calls (i + 1) t' cells' (set now i y)
     unfolding takes_answered cells_after left_after
-    takes-more b a t' cells' inside answer cells_is state =
+    takes-more b y a t' cells' inside is answer cells_is state =
         let c = get_or now i b in
-        let y : Take E = record { call = c.call; answer = Some a } in
         let others = drop (i + 1) calls in
         let walk = drop-walked calls now i on.walked inside b in
         record {
           answers =
               on.answers
               ∙ ap (λ xs. take i now ++ takes_answered e n t xs) walk
-              ∙ ap₂ (λ (x : Take E) (z : DecoderState). take i now ++ x ∷ takes_answered e n z others) (ap (λ (x : TakeAnswer E). record { call = c.call; answer = Some x }) (sym answer)) (sym state)
+              ∙ ap₂ (λ (x : Take E) (z : DecoderState). take i now ++ x ∷ takes_answered e n z others) (ap (λ (x : TakeAnswer E). record { call = c.call; answer = Some x }) (sym answer) ∙ sym is) (sym state)
               ∙ sym (append_assoc (take i now) (y ∷ []) (takes_answered e n t' others))
               ∙ ap (λ xs. xs ++ takes_answered e n t' others) (sym (take_more_set now i y inside));
           cells_are =

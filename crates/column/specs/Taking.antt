@@ -68,5 +68,6 @@ shut allowed r = cond allowed (head_fault r) (Some (Refused BadWidth))
 
 -- What opening a page answers: a decoder that waits on what the page reads as, or why not.
 abbrev pub Opening : {D : Type 0} → (D → DecoderState) → Bool → ℕ → List ℕ → Reading → Result D Declined → Type 0
-Opening state allowed w s r (Ok d) = (shut allowed r ≡ None) × (r ≡ opened (state d).waiting) × ((state d).page ≡ s) × ((state d).width ≡ w)
+Opening state allowed w s r (Ok d) =
+    (shut allowed r ≡ None) × (r ≡ opened (state d).waiting) × ((state d).page ≡ s) × ((state d).width ≡ w)
 Opening state allowed w s r (Err e) = shut allowed r ≡ Some e

@@ -146,7 +146,8 @@ module _ {C P E : Type 0} (code : Meaning.Ghosts C) (p : Element.Ghosts P) (e : 
 
   -- The page is that of the accepted list. The puts, the takes and the cells are as the calls answer; without an encoder they
   -- stay. What comes back is what was accepted.
-  pub record PageWorked (puts' : List (Put P)) (cells' : List E) (takes' : List (Take E)) (result : Result (ℕ × Bor (List ℕ)) Declined) : Type 0 where
+  pub record PageWorked (puts' : List (Put P)) (cells' : List E) (takes' : List (Take E))
+      (result : Result (ℕ × Bor (List ℕ)) Declined) : Type 0 where
     pub page : Worked refusal_is (page_of code encoder_is) room result
     pub puts_are : puts' ≡ if_made refusal_is (puts_answered p values code.need (fresh width room) puts) puts
     pub takes_are : takes' ≡ if_made refusal_is (takes_answered e (length cells) (decoder_of code encoder_is) takes) takes

@@ -26,7 +26,8 @@ pub trait Encoder<'a> {
     /// Writes the page to the buffer's front and zeros behind it, and answers the page's length and the buffer.
     fn finish(self) -> (usize, &'a mut [u8])
         ensures length { result.0 ≡ length (page_of Self.Code.Meaning (state self)) }
-        ensures bytes { result.1.now ≡ finished (page_of Self.Code.Meaning (state self)) (state self).room };
+        ensures bytes { result.1.now
+            ≡ finished (page_of Self.Code.Meaning (state self)) (state self).room };
 
     /// The list is always a column of a width that the coding has, and fits the buffer.
     ghost holds: { (e : Self) → Holds Self.Code.Meaning (state e) };
@@ -39,18 +40,22 @@ pub trait Decoder {
     /// Takes one value.
     fn get<E: Element>(&mut self) -> Result<Option<E>, Declined>
         ensures answer { result ≡ one_of E.Element (taking_from E.Element 1 (state self.old)) }
-        ensures state { state self.new ≡ after_taking (taking_from E.Element 1 (state self.old)) (state self.old) };
+        ensures state { state self.new
+            ≡ after_taking (taking_from E.Element 1 (state self.old)) (state self.old) };
 
     /// Takes as many values as there are cells, into the first of them; the others stay.
     fn get_batch<E: Element>(&mut self, cells: &mut [E]) -> Result<usize, Declined>
         ensures answer { result ≡ (taking_from E.Element (length cells.old) (state self.old)).answer }
-        ensures cells { cells.new ≡ cells_with E.Element cells.old 0 (taking_from E.Element (length cells.old) (state self.old)) }
-        ensures state { state self.new ≡ after_taking (taking_from E.Element (length cells.old) (state self.old)) (state self.old) };
+        ensures cells { cells.new
+            ≡ cells_with E.Element cells.old 0 (taking_from E.Element (length cells.old) (state self.old)) }
+        ensures state { state self.new
+            ≡ after_taking (taking_from E.Element (length cells.old) (state self.old)) (state self.old) };
 
     /// Takes `count` values and drops them.
     fn skip(&mut self, count: usize) -> Result<usize, Declined>
         ensures answer { result ≡ (taking count (state self.old).waiting).answer }
-        ensures state { state self.new ≡ after_taking (taking count (state self.old).waiting) (state self.old) };
+        ensures state { state self.new
+            ≡ after_taking (taking count (state self.old).waiting) (state self.old) };
 
     /// Each pattern that waits has at most 64 bits.
     ghost below: { (d : Self) → AllByRecursion (λ p. p < 2 ^ 64) (state d).waiting.values };

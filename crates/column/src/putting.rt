@@ -29,7 +29,8 @@ impl From<Result<(), Refusal>> for PutList {
 /// Puts values one after another, and leaves off at the first that is refused.
 pub fn put_list<'a, N: Encoder<'a>, E: Element>(encoder: &mut N, values: &[E]) -> PutList
     ensures answer { result ≡ putting N.Code.need (N.state encoder.old) (map E.pattern values.now) }
-    ensures state { N.state encoder.new ≡ with_more (N.state encoder.old) (take result.count (map E.pattern values.now)) }
+    ensures state { N.state encoder.new
+        ≡ with_more (N.state encoder.old) (take result.count (map E.pattern values.now)) }
 {
     put_each(encoder, values)
 }
@@ -37,7 +38,8 @@ pub fn put_list<'a, N: Encoder<'a>, E: Element>(encoder: &mut N, values: &[E]) -
 // The values with their index, up to the first that is refused.
 fn put_each<'a, N: Encoder<'a>, E: Element>(encoder: &mut N, values: &[E]) -> PutList
     ensures answer { result ≡ putting N.Code.need (N.state encoder.old) (map E.pattern values.now) }
-    ensures state { N.state encoder.new ≡ with_more (N.state encoder.old) (take result.count (map E.pattern values.now)) }
+    ensures state { N.state encoder.new
+        ≡ with_more (N.state encoder.old) (take result.count (map E.pattern values.now)) }
 {
     for (i, v) in values.iter().enumerate() {
         if let Err(refusal) = encoder.put(*v) {

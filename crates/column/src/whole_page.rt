@@ -14,6 +14,8 @@ use packed::Element;
 /// Whichever calls were refused, each pattern taken is the next accepted one, and the value made of it has that pattern; behind
 /// the last come at most seven zeros, then the end, and no fault (`returned` in `worked`, for element types that keep the third
 /// law, as these do). The same holds over every list of calls (`trip`).
+//
+// The slices are parameters: a clause names what the lent slices of a struct hold afterwards by places, `script.exit.1.now`.
 pub fn work_page<'a, C: Coding<'a>, P: Element, E: Element>(
     width: u32,
     out: &'a mut [u8],

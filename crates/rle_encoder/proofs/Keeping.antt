@@ -9,20 +9,13 @@ use Rattle.rle.specs.Runs.{State, steps, state, page, closing}
 use Rattle.rle.specs.Writing.{written, pending, recalled}
 use Rattle.rle.proofs.Splitting.{Sound, state-sound}
 use Rattle.rle.proofs.Writing.{recalls, state-append}
+use Rattle.rle_encoder.specs.Below.{below_all}
 use Rattle.rle_encoder.specs.Encoding.{Kept, accepted_of, alike_of, all_below, current_of, front_of, held_by, phase_of}
 use Rattle.rle_encoder.specs.declared.RleEncoder.{RleEncoder}
 use Rattle.rle_encoder.specs.declared.phase.Phase.{Phase}
 use Rattle.rle_encoder.specs.declared.phase.Phase.TheVariants.{Gathering, Packing, Repeating}
 
 -- ---- every value is below 2 ^ w
-
-pub below_all : (w : ℕ) (l : List ℕ) → all_below w l ≡ true → AllByRecursion (λ v. v < 2 ^ w) l
-below_all w [] e = tt
-below_all w (v ∷ vs) e =
-    ⊎_elim
-    (λ small. (ltb-true v (2 ^ w) small, below_all w vs (sym (cond-true (ltb v (2 ^ w)) (all_below w vs) false small) ∙ e)))
-    (λ large. absurd (both_ways false refl (sym (cond-false (ltb v (2 ^ w)) (all_below w vs) false large) ∙ e)))
-    (cases_Bool (ltb v (2 ^ w)))
 
 pub all-below : (w : ℕ) (l : List ℕ) → AllByRecursion (λ v. v < 2 ^ w) l → all_below w l ≡ true
 all-below w [] a = refl

@@ -2,6 +2,7 @@
 use Rattle.std.specs.Prelude.{◌≡◌, ℕ, ◌+◌, ◌^◌, ◌<◌, ◌≤◌, Bool, true, false, cond, List, [], ◌∷◌, ◌++◌, length, replicate, Some, None, Ok, Err, Option, Result, ◌==◌}
 use Rattle.packed.specs.Bytes.{overwrite}
 use Rattle.column.specs.Putting.{unput}
+use Rattle.column.specs.States.{EncoderState}
 use Rattle.column.specs.declared.Refusal.{Refusal}
 use Rattle.rle.specs.Runs.{state, page}
 use Rattle.rle_encoder.specs.Encoding.{accepted_of, front_of}
@@ -18,13 +19,17 @@ accepted e = accepted_of e.width e.phase e.current e.gathered e.collected (front
 abbrev pub room : RleEncoder → ℕ
 room e = length e.out.now
 
+-- Where an encoder stands.
+abbrev pub state_of : RleEncoder → EncoderState
+state_of e = record { width = e.width; room = room e; accepted = accepted e }
+
 -- How many bytes the page of a list takes.
 abbrev pub need : ℕ → List ℕ → ℕ
 need w l = length (page w l)
 
 -- Why a pattern is not added.
 abbrev pub refusal : RleEncoder → ℕ → Option Refusal
-refusal e p = unput (need e.width) e.width (room e) (accepted e) p
+refusal e p = unput need (state_of e) p
 
 -- Why the value that repeats is not added `count` times more.
 abbrev pub run_refusal : RleEncoder → ℕ → Option Refusal

@@ -1,4 +1,6 @@
+pub mod Below
 pub mod Encoder
 pub mod Encoding
 pub mod Extending
 pub mod Finishing
+pub mod Keeping

@@ -1,5 +1,7 @@
 //! The encoder as one of the column codings.
-ghost use Rattle.rle_encoder.specs.Encoder.{accepted as accepted_by, room as room_of};
+ghost use Rattle.std.proofs.Common.{le→leb};
+ghost use Rattle.rle_encoder.specs.Encoder.{state_of};
+ghost use Rattle.rle_encoder.specs.Keeping.{is-column};
 
 use crate::finishing::Rest;
 use crate::meaning::RlePages;
@@ -15,11 +17,7 @@ impl Pass for RlePass {
 impl<'a> Encoder<'a> for RleEncoder<'a> {
     type Code = RlePages;
 
-    ghost width = { λ e. e.width };
-
-    ghost room = { λ e. room_of e };
-
-    ghost accepted = { λ e. accepted_by e };
+    ghost state = { state_of };
 
     fn put<E: Element>(&mut self, v: E) -> Result<(), Refusal> {
         RleEncoder::put(self, v)
@@ -50,4 +48,6 @@ impl<'a> Encoder<'a> for RleEncoder<'a> {
         let end = rest.close(out);
         (end, out)
     }
+
+    ghost holds = { λ e. record { column = is-column e; allowed = le→leb e.width 64 e.narrow; fits = e.fits } };
 }

@@ -27,7 +27,7 @@ loop-put-preserved g c =
     record {
       worked =
           puts-more g.E.Element c.args.values.now need (g.N.Encoder.state c.args.encoder.now) c.args.puts.now c.loop-put.put-index t c.loop-put.puts inv.worked
-          c.put-item.result c.put_call-answer.result (g.N.Encoder.state c.put_call-answer.new.encoder) inside c.put_call-answer.ensures.answer c.put_call-answer.ensures.state;
+          c.put-item.result c.set_answer.new.self c.put_call-answer.result (g.N.Encoder.state c.put_call-answer.new.encoder) inside c.set_answer.ensures c.put_call-answer.ensures.answer c.put_call-answer.ensures.state;
       count = omega (arith, inv.count, long, count);
       short = omega (arith, long, bound);
     }

@@ -14,11 +14,11 @@ loop-take-preserved g c =
     record {
       worked =
           takes-more e (length c.args.cells.now) (g.D.Decoder.state c.args.decoder.now) c.args.cells.now c.args.takes.now c.loop-take.take-index t c.loop-take.cells c.loop-take.takes inv.worked
-          c.take-item.result c.take_call.result (g.D.Decoder.state c.take_call.new.decoder) c.take_call.new.cells inside
-          (c.take_call.ensures.answer ∙ ap (λ n. answer_of e call (taken_from e n t call)) inv.length)
-          (c.take_call.ensures.cells ∙ ap (λ n. cells_by e c.loop-take.cells call (taken_from e n t call)) inv.length)
-          (c.take_call.ensures.state ∙ ap (λ n. after_taking (taken_from e n t call) t) inv.length);
-      length = c.take_call.ensures.length ∙ inv.length;
+          c.take-item.result c.set_answer.new.self c.take_call-answer.result (g.D.Decoder.state c.take_call-answer.new.decoder) c.take_call-answer.new.cells inside c.set_answer.ensures
+          (c.take_call-answer.ensures.answer ∙ ap (λ n. answer_of e call (taken_from e n t call)) inv.length)
+          (c.take_call-answer.ensures.cells ∙ ap (λ n. cells_by e c.loop-take.cells call (taken_from e n t call)) inv.length)
+          (c.take_call-answer.ensures.state ∙ ap (λ n. after_taking (taken_from e n t call) t) inv.length);
+      length = c.take_call-answer.ensures.length ∙ inv.length;
     }
 
 pub returns-clause-answers : goal.returns-clause-answers

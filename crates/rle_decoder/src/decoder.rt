@@ -24,14 +24,12 @@ pub struct RleDecoder<'a> {
 }
 
 impl<'a> RleDecoder<'a> {
-    ghost use Rattle.std.specs.Prelude.{◌+◌, ◌-◌, min, List, [], map, take, if◌then◌else◌, Err, nat_lt};
-    ghost use Rattle.column.specs.Pages.{end, opened};
+    ghost use Rattle.std.specs.Prelude.{◌+◌, ◌-◌, min, map, take, if◌then◌else◌, Err, nat_lt};
     ghost use Rattle.column.specs.Taking.{Opening, after_taking, cells_with, first_of, one_of, taking, taking_from};
     ghost use Rattle.column.specs.declared.Refusal.TheVariants.{ElementTooNarrow};
     ghost use Rattle.packed.specs.Bytes.{overwrite};
-    ghost use Rattle.rle.specs.Hybrid.{Hybrid};
-    ghost use Rattle.rle.specs.Lenient.{Lenient};
-    ghost use Rattle.rle.specs.Reading.{reads, run_at as stand_at, waiting_at};
+    ghost use Rattle.rle.specs.Reading.{reads, run_at as stand_at};
+    ghost use Rattle.rle_decoder.specs.Pages.{ReadIsLenient, StandingIsRead};
     ghost use Rattle.rle_decoder.specs.Decoder.{Refilled, Took, left_of, page_of, state_of, waiting_of};
 
     /// A decoder of a page, which stands at its first value. A page says itself how many values it has.
@@ -40,17 +38,15 @@ impl<'a> RleDecoder<'a> {
     /// fault stands in the format, but for the named leniencies.
     pub fn open(page: &'a [u8], width: u32, _count: usize) -> Result<RleDecoder<'a>, Declined>
         ensures opening { Opening state_of (nat_le width 64) width page.now (reads width page.now) result }
-        ensures standing { (vs : List ℕ) → Hybrid width page.now vs → reads width page.now ≡ opened (record { values = vs; ending = end }) }
-        ensures lenient { (vs : List ℕ) → waiting_at width page.now 0 ≡ record { values = vs; ending = end } → Lenient width page.now vs }
+        ensures standing { StandingIsRead width page.now }
+        ensures lenient { ReadIsLenient width page.now }
     {
         RleDecoder::open_page(page, width as usize)
     }
 
     // Reads the page's first run.
     fn open_page(page: &'a [u8], width: usize) -> Result<RleDecoder<'a>, Declined>
-        ensures opening { Opening state_of (nat_le width 64) width page.now (reads width page.now) result }
-        ensures standing { (vs : List ℕ) → Hybrid width page.now vs → reads width page.now ≡ opened (record { values = vs; ending = end }) }
-        ensures lenient { (vs : List ℕ) → waiting_at width page.now 0 ≡ record { values = vs; ending = end } → Lenient width page.now vs }
+        ensures { Opening state_of (nat_le width 64) width page.now (reads width page.now) result }
     {
         if !is_allowed(width) {
             return Err(Refusal::BadWidth.into());
@@ -189,7 +185,7 @@ impl<'a> RleDecoder<'a> {
         }
     }
 
-    // The next value of the current run. It stands beside `copy_run`, since a reader for one value is slower.
+    // The next value of the current run.
     fn first(&self) -> u64
         requires { 0 < left_of self.now }
         ensures { first_of (λ v. v) (waiting_of self.now).values ≡ Some result }

@@ -63,7 +63,8 @@ impl<'a> RleDecoder<'a> {
     // Takes one value.
     pub(crate) fn take_one<E: Element>(&mut self) -> Result<Option<E>, Declined>
         ensures answer { result ≡ one_of E.Element (taking_from E.Element 1 (state_of self.old)) }
-        ensures state { state_of self.new ≡ after_taking (taking_from E.Element 1 (state_of self.old)) (state_of self.old) }
+        ensures state { state_of self.new
+            ≡ after_taking (taking_from E.Element 1 (state_of self.old)) (state_of self.old) }
     {
         self.check_element::<E>()?;
         if !self.refill(0)? {
@@ -77,8 +78,10 @@ impl<'a> RleDecoder<'a> {
     // Takes as many values as there are cells, or those that wait, into the first of them.
     pub(crate) fn take_values<E: Element>(&mut self, cells: &mut [E]) -> Result<usize, Declined>
         ensures answer { result ≡ (taking_from E.Element (length cells.old) (state_of self.old)).answer }
-        ensures cells { cells.new ≡ cells_with E.Element cells.old 0 (taking_from E.Element (length cells.old) (state_of self.old)) }
-        ensures state { state_of self.new ≡ after_taking (taking_from E.Element (length cells.old) (state_of self.old)) (state_of self.old) }
+        ensures cells { cells.new
+            ≡ cells_with E.Element cells.old 0 (taking_from E.Element (length cells.old) (state_of self.old)) }
+        ensures state { state_of self.new
+            ≡ after_taking (taking_from E.Element (length cells.old) (state_of self.old)) (state_of self.old) }
     {
         self.check_element::<E>()?;
         let mut taken = 0;
@@ -92,7 +95,8 @@ impl<'a> RleDecoder<'a> {
     // cells would be longer than the two.
     pub(crate) fn pass_values(&mut self, count: usize) -> Result<usize, Declined>
         ensures answer { result ≡ (taking count (waiting_of self.old)).answer }
-        ensures state { state_of self.new ≡ after_taking (taking count (waiting_of self.old)) (state_of self.old) }
+        ensures state { state_of self.new
+            ≡ after_taking (taking count (waiting_of self.old)) (state_of self.old) }
     {
         let mut passed = 0;
         while passed < count && self.refill(passed)? {
@@ -103,7 +107,8 @@ impl<'a> RleDecoder<'a> {
 
     // Refuses elements that have fewer bits than the column.
     fn check_element<E: Element>(&self) -> Result<(), Refusal>
-        ensures { result ≡ (if nat_lt E.Element.WIDTH self.now.width then Err ElementTooNarrow else Ok (record {})) }
+        ensures { result
+            ≡ (if nat_lt E.Element.WIDTH self.now.width then Err ElementTooNarrow else Ok (record {})) }
     {
         if (E::WIDTH as usize) < self.width {
             return Err(Refusal::ElementTooNarrow);
@@ -144,8 +149,9 @@ impl<'a> RleDecoder<'a> {
         ensures { result ≡ left_of self.now }
     {
         match self.run {
-            Ok(Some(Found::Repeated { count, .. } | Found::Packed { count, .. })) => count
-                - self.taken,
+            Ok(Some(Found::Repeated { count, .. } | Found::Packed { count, .. })) => {
+                count - self.taken
+            }
             Ok(None) | Err(_) => 0,
         }
     }
@@ -163,7 +169,8 @@ impl<'a> RleDecoder<'a> {
     // Takes values of the current run into the first cells, as many as fit or are left, and answers how many.
     fn take_run<E: Element>(&mut self, cells: &mut [E]) -> usize
         ensures count { result ≡ min (length cells.old) (left_of self.old) }
-        ensures cells { cells.new ≡ overwrite cells.old 0 (map E.Element.made (take result (waiting_of self.old).values)) }
+        ensures cells { cells.new
+            ≡ overwrite cells.old 0 (map E.Element.made (take result (waiting_of self.old).values)) }
         ensures took { Took self.old self.new result }
     {
         let count = self.left().min(cells.len());

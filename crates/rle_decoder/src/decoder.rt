@@ -192,7 +192,7 @@ impl<'a> RleDecoder<'a> {
         }
     }
 
-    // The next value of the current run.
+    // The next value of the current run: its bits alone, with no reader set up for them.
     fn first(&self) -> u64
         requires { 0 < left_of self.now }
         ensures { first_of (λ v. v) (waiting_of self.now).values ≡ Some result }

@@ -8,7 +8,7 @@ ghost use Rattle.packed.specs.Vlq.{number_of, read_vlq, signed_of, taken_of};
 use packed::{Element, Fault, bits_at, from_zigzag, read_vlq, unpack};
 
 /// Reads from a page, the lowest bit of each byte first.
-#[derive(Clone, Copy)]
+#[derive(Clone, Copy, Debug)]
 pub struct BitReader<'a> {
     buffer: &'a [u8],
     byte_offset: usize,

@@ -2,23 +2,23 @@
 #![tactic(auto)]
 
 ghost use Rattle.std.specs.Prelude.{◌≡◌, ◌+◌, ◌*◌, ◌%◌, ◌<◌, ◌≤◌, cond, length, is_some, if◌then◌else◌};
-ghost use Rattle.packed.specs.Bytes.{bits_at, cells_at, overwrite};
+ghost use Rattle.packed.specs.Bytes.{bits_at, overwrite};
 ghost use Rattle.packed.specs.Vlq.{number_of, read_vlq, signed_of, taken_of};
 
 use packed::{Element, Fault, bits_at, from_zigzag, read_vlq, unpack};
 
 /// Reads from a page, the lowest bit of each byte first.
-#[derive(Clone, Copy)]
+#[derive(Clone, Copy, Debug)]
 pub struct BitReader<'a> {
     buffer: &'a [u8],
     byte_offset: usize,
     bit_offset: usize,
-    ghost in_byte: { bit_offset < 8 },
-    ghost in_page: { 8 * byte_offset + bit_offset ≤ 8 * length buffer.now },
+    pub ghost in_byte: { bit_offset < 8 },
+    pub ghost in_page: { 8 * byte_offset + bit_offset ≤ 8 * length buffer.now },
 }
 
 impl<'a> BitReader<'a> {
-    ghost use Rattle.bit_reader.specs.Reader.{Counted, HasValues, Moved, next_byte, page, position, read_one};
+    ghost use Rattle.bit_reader.specs.Reader.{Counted, HasValues, Moved, next_byte, next_cells, next_vlq, page, position, read_one};
 
     /// A reader at the page's first bit.
     pub fn new(buffer: &'a [u8]) -> BitReader<'a>
@@ -84,7 +84,7 @@ impl<'a> BitReader<'a> {
     pub fn get_batch<T: Element>(&mut self, batch: &mut [T], num_bits: usize) -> usize
         requires { num_bits ≤ 64 }
         ensures count { Counted (page self.old) (position self.old) num_bits (length batch.old) result }
-        ensures cells { batch.new ≡ overwrite batch.old 0 (cells_at T.Element.made (page self.old) (position self.old) num_bits result) }
+        ensures cells { batch.new ≡ overwrite batch.old 0 (next_cells T.Element.made self.old num_bits result) }
         ensures moved { Moved self.old self.new (position self.old + result * num_bits) }
     {
         let count = self.readable(batch.len(), num_bits);
@@ -97,7 +97,7 @@ impl<'a> BitReader<'a> {
     pub fn fill_batch<T: Element>(&mut self, cells: &mut [T], num_bits: usize)
         requires width { num_bits ≤ 64 }
         requires room { HasValues self.old num_bits (length cells.old) }
-        ensures cells { cells.new ≡ cells_at T.Element.made (page self.old) (position self.old) num_bits (length cells.old) }
+        ensures cells { cells.new ≡ next_cells T.Element.made self.old num_bits (length cells.old) }
         ensures moved { Moved self.old self.new (position self.old + length cells.old * num_bits) }
     {
         let head_len = self.values_to_byte(cells.len(), num_bits);
@@ -119,8 +119,8 @@ impl<'a> BitReader<'a> {
 
     /// The number that begins at the next whole byte. A fault leaves the reader at that byte.
     pub fn get_vlq_int(&mut self) -> Result<u64, Fault>
-        ensures value { result ≡ number_of (read_vlq (page self.old) (next_byte self.old)) }
-        ensures moved { Moved self.old self.new (8 * (next_byte self.old + taken_of (read_vlq (page self.old) (next_byte self.old)))) }
+        ensures value { result ≡ number_of (next_vlq self.old) }
+        ensures moved { Moved self.old self.new (8 * (next_byte self.old + taken_of (next_vlq self.old))) }
     {
         self.align();
         self.take_vlq()
@@ -128,8 +128,8 @@ impl<'a> BitReader<'a> {
 
     /// The signed number whose zigzag begins at the next whole byte.
     pub fn get_zigzag_vlq_int(&mut self) -> Result<i64, Fault>
-        ensures value { result ≡ signed_of (number_of (read_vlq (page self.old) (next_byte self.old))) }
-        ensures moved { Moved self.old self.new (8 * (next_byte self.old + taken_of (read_vlq (page self.old) (next_byte self.old)))) }
+        ensures value { result ≡ signed_of (number_of (next_vlq self.old)) }
+        ensures moved { Moved self.old self.new (8 * (next_byte self.old + taken_of (next_vlq self.old))) }
     {
         let value = self.get_vlq_int()?;
         Ok(from_zigzag(value))
@@ -208,7 +208,7 @@ impl<'a> BitReader<'a> {
     fn fill_singles<T: Element>(&mut self, cells: &mut [T], num_bits: usize)
         requires width { num_bits ≤ 64 }
         requires room { HasValues self.old num_bits (length cells.old) }
-        ensures cells { cells.new ≡ cells_at T.Element.made (page self.old) (position self.old) num_bits (length cells.old) }
+        ensures cells { cells.new ≡ next_cells T.Element.made self.old num_bits (length cells.old) }
         ensures moved { Moved self.old self.new (position self.old + length cells.old * num_bits) }
     {
         for cell in cells.iter_mut() {
@@ -222,7 +222,7 @@ impl<'a> BitReader<'a> {
         requires width { num_bits ≤ 64 }
         requires room { HasValues self.old num_bits (length cells.old) }
         requires whole { 0 < length cells.old → position self.old % 8 ≡ 0 }
-        ensures cells { cells.new ≡ cells_at T.Element.made (page self.old) (position self.old) num_bits (length cells.old) }
+        ensures cells { cells.new ≡ next_cells T.Element.made self.old num_bits (length cells.old) }
         ensures moved { Moved self.old self.new (position self.old + length cells.old * num_bits) }
     {
         let (groups, rest) = cells.split_at_mut(cells.len() - cells.len() % 8);
@@ -236,7 +236,7 @@ impl<'a> BitReader<'a> {
         requires groups { length cells.old % 8 ≡ 0 }
         requires room { HasValues self.old num_bits (length cells.old) }
         requires whole { 0 < length cells.old → position self.old % 8 ≡ 0 }
-        ensures cells { cells.new ≡ cells_at T.Element.made (page self.old) (position self.old) num_bits (length cells.old) }
+        ensures cells { cells.new ≡ next_cells T.Element.made self.old num_bits (length cells.old) }
         ensures moved { Moved self.old self.new (position self.old + length cells.old * num_bits) }
     {
         unpack(&self.buffer[self.byte_offset..], cells, num_bits);

@@ -5,7 +5,7 @@ ghost use Rattle.column.specs.Heads.{IsReading, pattern_of, reading_of, reading_
 use packed::Element;
 
 /// A head's address on the loop and its analogue value.
-#[derive(Clone, Copy)]
+#[derive(Clone, Copy, Debug, PartialEq, Eq)]
 pub struct HeadReading {
     pub address: u8,
     pub value: u8,

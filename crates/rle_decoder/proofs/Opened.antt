@@ -1,29 +1,16 @@
 -- Opening a page.
-use Rattle.std.proofs.Common.{◌≡◌, ℕ, suc, ◌<◌, ◌≤◌, leb, List, length, get_or, Some, None, Ok, Option, sym, refl, ap, ◌∙◌, arith}
-use Rattle.std.proofs.ByRecursion.{All-from_get_or}
+use Rattle.std.proofs.Common.{◌≡◌, ℕ, ◌≤◌, leb, List, Some, None, Ok, Option, sym, refl, ap, ◌∙◌}
 use Rattle.std.proofs.lemmas.Bool.{cond-true, le-leb}
 use Rattle.packed.specs.declared.faults.Fault.{Fault}
-use Rattle.column.specs.Pages.{end, opened}
-use Rattle.column.specs.Pages.{Waiting}
+use Rattle.column.specs.Pages.{Waiting, opened}
 use Rattle.column.specs.Taking.{behind, shut}
 use Rattle.column.specs.declared.declined.Declined.TheVariants.{Refused, Faulted}
 use Rattle.column.specs.declared.Refusal.TheVariants.{BadWidth}
-use Rattle.rle.specs.Hybrid.{Hybrid}
-use Rattle.rle.specs.Lenient.{Lenient}
 use Rattle.rle.specs.Reading.{stopped, run_at, follow, waiting_at, opens, reads}
 use Rattle.rle.specs.declared.runs.Found.{Found}
 use Rattle.rle.specs.declared.runs.Found.TheVariants.{Repeated, Packed}
 use Rattle.rle.proofs.Later.{waiting-step}
-use Rattle.rle.proofs.Leniencies.{lenient-from}
-use Rattle.rle.proofs.ReadBack.{hybrid-opens}
 use Rattle.rle.specs.Found.{found}
-
--- what is proved of every page, whatever opening it answers
-pub standing : (w : ℕ) (s vs : List ℕ) → Hybrid w s vs → reads w s ≡ opened (record { values = vs; ending = end })
-standing w s vs h = hybrid-opens w h
-
-pub lenient : (w : ℕ) (s : List ℕ) → ((i : ℕ) → get_or s i 0 < 256) → (vs : List ℕ) → waiting_at w s 0 ≡ record { values = vs; ending = end } → Lenient w s vs
-lenient w s bytes vs read = lenient-from w s (All-from_get_or (λ b. b < 256) s 0 (λ i _. bytes i)) (suc (length s)) 0 vs (omega arith) read
 
 -- a first run that is no fault opens the page
 found-opens : (run : Option Found) (r : Waiting) → opens (found (Ok run)) r ≡ opened r

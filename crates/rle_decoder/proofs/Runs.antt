@@ -1,10 +1,8 @@
 -- A run: it lies in the page, it leads on to a later one, and what its values are.
-use Rattle.std.proofs.Common.{◌≡◌, ℕ, zero, suc, ◌+◌, ◌-◌, ◌*◌, ◌/◌, ◌%◌, ◌^◌, ◌<◌, ◌≤◌, min, cond, eqb, ltb, leb, List, ◌∷◌, ◌++◌, map, length, take, drop, replicate, Some, Ok, Err, Result, sym, refl, ap, ◌∙◌, subst, ⊎_elim, suc-le-suc, zero-le, pow_mono, arith}
+use Rattle.std.proofs.Common.{◌≡◌, ℕ, zero, suc, ◌+◌, ◌-◌, ◌*◌, ◌/◌, ◌^◌, ◌<◌, ◌≤◌, List, ◌∷◌, ◌++◌, map, length, take, drop, replicate, Some, sym, refl, ap, ◌∙◌, subst, ⊎_elim, suc-le-suc, zero-le, pow_mono, arith}
 use lib.ListN.{length-replicate}
 use Rattle.std.proofs.lemmas.List.{take_at, drop_at, drop-append-le, take-append-le, drop-replicate, take-replicate, length-append, length-drop}
-use Rattle.std.proofs.lemmas.Bool.{cond_both, cases_lt}
-use Rattle.packed.specs.declared.faults.Fault.{Fault}
-use Rattle.packed.specs.declared.faults.FaultKind.TheVariants.{RunTooLong, RepeatedValueCut}
+use Rattle.std.proofs.lemmas.Bool.{cases_lt}
 use Rattle.packed.specs.Bytes.{bits_at, cells_at}
 use Rattle.packed.specs.Vlq.{read_vlq}
 use Rattle.packed.proofs.Bytes.{bits_at-below, length-cells_at, cells_at-append}
@@ -13,18 +11,12 @@ use Rattle.bit_reader.specs.Reader.{readable}
 use Rattle.bit_reader.proofs.Reading.{all_fit, some_fit, counted}
 use Rattle.column.specs.Pages.{Waiting}
 use Rattle.column.specs.Taking.{behind}
+use Rattle.rle.proofs.Headers.{headed-cases}
 use Rattle.rle.specs.Runs.{value_bytes}
-use Rattle.rle.specs.Reading.{Stand, ended, stopped, repeats, packs, stop, ends_page, headed, repeated_at, packed_at, run_at, follow}
+use Rattle.rle.specs.Reading.{Stand, ended, stopped, repeats, packs, run_at, follow}
 use Rattle.rle_decoder.specs.Run.{count_of, bits_end, next_of, value_of}
 
 -- ---- a run that was read
-
--- a run stands inside the page, leads on to a later place, and the page has its values
-abbrev Inside : ℕ → List ℕ → ℕ → Stand → Type 0
-Inside w s at ended = Unit {0}
-Inside w s at (stopped f) = Unit {0}
-Inside w s at (repeats n v next) = (at < length s) × (at < next) × (v < 2 ^ 64)
-Inside w s at (packs n start next) = (at < length s) × (at < next) × (8 * start + n * w ≤ 8 * length s)
 
 readable-within : (s : List ℕ) (p w m : ℕ) → p ≤ 8 * length s → p + readable s p w m * w ≤ 8 * length s
 readable-within s p w m inside =
@@ -35,47 +27,24 @@ readable-within s p w m inside =
     (λ all. let c = counted s p w m m left inside refl (all_fit left w m all) in at m c.count c.within)
     (cases_lt left (m * w))
 
-headed-inside : (w : ℕ) (s : List ℕ) (at : ℕ) (r : Result (ℕ × ℕ) Fault) → w ≤ 64 → read_vlq s at ≡ r → Inside w s at (headed w s at r)
-unfolding headed repeated_at packed_at
-headed-inside w s at (Err f) narrow e = cond_both (ends_page f.kind) ended (stopped f) (Inside w s at) (λ y. tt) (λ n. tt)
-headed-inside w s at (Ok r) narrow e =
-    let inside : at + r.1 ≤ length s = read-within s at r.0 r.1 e in
-    let some : 0 < r.1 = read_some s at r.0 r.1 e in
-    let start = at + r.1 in
-    let k = r.0 / 2 in
-    let value = bits_at s (8 * start) (8 * value_bytes w) in
+-- the page has its values
+pub run_in_page : (w : ℕ) (s : List ℕ) (at : ℕ) (st : Stand) → st ≡ run_at w s at → bits_end w st ≤ 8 * length s
+run_in_page w s at st is =
+    subst (λ x. bits_end w x ≤ 8 * length s) (sym is)
+    (headed-cases w s at (λ x. bits_end w x ≤ 8 * length s) zero-le (λ f. zero-le) (read_vlq s at)
+    (λ h k n read there. zero-le)
+    (λ h k g read. let inside = read-within s at h k read in readable-within s (8 * (at + k)) w (8 * g) (omega arith)))
+
+-- the value that it repeats has 64 bits
+pub run_fits : (w : ℕ) (s : List ℕ) (at : ℕ) (st : Stand) → w ≤ 64 → st ≡ run_at w s at → value_of st < 2 ^ 64
+run_fits w s at st narrow is =
     let few : 8 * value_bytes w ≤ 64 = omega arith in
     let most : 2 ^ (8 * value_bytes w) ≤ 2 ^ 64 = pow_mono few in
-    let fits : value < 2 ^ 64 = omega (arith, bits_at-below s (8 * start) (8 * value_bytes w)) in
-    cond_both (eqb r.0 0) ended (cond (eqb (r.0 % 2) 0) (repeated_at w s at start k) (packed_at w s at start k)) (Inside w s at) (λ z. tt)
-    (λ nz. cond_both (eqb (r.0 % 2) 0) (repeated_at w s at start k) (packed_at w s at start k) (Inside w s at)
-    (λ even.
-    cond_both (ltb 2147483647 k) (stop RunTooLong at) (cond (leb (start + value_bytes w) (length s)) (repeats k value (start + value_bytes w)) (stop RepeatedValueCut start)) (Inside w s at) (λ y. tt)
-    (λ n. cond_both (leb (start + value_bytes w) (length s)) (repeats k value (start + value_bytes w)) (stop RepeatedValueCut start) (Inside w s at) (λ y. (omega arith, omega arith, fits)) (λ y. tt)))
-    (λ odd.
-    cond_both (ltb 2147483647 (8 * k)) (stop RunTooLong at) (packs (readable s (8 * start) w (8 * k)) start (min (start + k * w) (length s))) (Inside w s at) (λ y. tt)
-    (λ n. (omega arith, omega arith, readable-within s (8 * start) w (8 * k) (omega arith)))))
-
-run_inside : (w : ℕ) (s : List ℕ) (at : ℕ) → w ≤ 64 → Inside w s at (run_at w s at)
-run_inside w s at narrow = headed-inside w s at (read_vlq s at) narrow refl
-
-stand_in_page : (w : ℕ) (s : List ℕ) (at : ℕ) (st : Stand) → Inside w s at st → bits_end w st ≤ 8 * length s
-stand_in_page w s at ended h = zero-le
-stand_in_page w s at (stopped f) h = zero-le
-stand_in_page w s at (repeats n v next) h = zero-le
-stand_in_page w s at (packs n start next) h = h.2
-
-stand_fits : (w : ℕ) (s : List ℕ) (at : ℕ) (st : Stand) → Inside w s at st → value_of st < 2 ^ 64
-stand_fits w s at ended h = omega arith
-stand_fits w s at (stopped f) h = omega arith
-stand_fits w s at (repeats n v next) h = h.2
-stand_fits w s at (packs n start next) h = omega arith
-
-pub run_in_page : (w : ℕ) (s : List ℕ) (at : ℕ) (st : Stand) → w ≤ 64 → st ≡ run_at w s at → bits_end w st ≤ 8 * length s
-run_in_page w s at st narrow e = subst (λ x. bits_end w x ≤ 8 * length s) (sym e) (stand_in_page w s at (run_at w s at) (run_inside w s at narrow))
-
-pub run_fits : (w : ℕ) (s : List ℕ) (at : ℕ) (st : Stand) → w ≤ 64 → st ≡ run_at w s at → value_of st < 2 ^ 64
-run_fits w s at st narrow e = subst (λ x. value_of x < 2 ^ 64) (sym e) (stand_fits w s at (run_at w s at) (run_inside w s at narrow))
+    let zero : 0 < 2 ^ 64 = omega arith in
+    subst (λ x. value_of x < 2 ^ 64) (sym is)
+    (headed-cases w s at (λ x. value_of x < 2 ^ 64) zero (λ f. zero) (read_vlq s at)
+    (λ h k n read there. omega (arith, bits_at-below s (8 * (at + k)) (8 * value_bytes w)))
+    (λ h k g read. zero))
 
 -- ---- the runs behind one
 
@@ -92,14 +61,14 @@ turns_at s (stopped f) next e = cc
 turns_at s (repeats n v next') next e = let same : next' ≡ next = cc in ap (λ x. suc (suc (length s) - x)) same
 turns_at s (packs n start next') next e = let same : next' ≡ next = cc in ap (λ x. suc (suc (length s) - x)) same
 
-stand-falls : (w : ℕ) (s : List ℕ) (at : ℕ) (st : Stand) → Inside w s at st → turns_left s st < suc (suc (length s) - at)
-stand-falls w s at ended h = suc-le-suc zero-le
-stand-falls w s at (stopped f) h = suc-le-suc zero-le
-stand-falls w s at (repeats n v next) h = omega (arith, h.0, h.1)
-stand-falls w s at (packs n start next) h = omega (arith, h.0, h.1)
-
-pub turns-fall : (w : ℕ) (s : List ℕ) (st : Stand) (next : ℕ) → w ≤ 64 → next_of st ≡ Some next → turns_left s (run_at w s next) < turns_left s st
-turns-fall w s st next narrow leads = subst (λ n. turns_left s (run_at w s next) < n) (sym (turns_at s st next leads)) (stand-falls w s next (run_at w s next) (run_inside w s next narrow))
+-- fewer come behind the next
+pub turns-fall : (w : ℕ) (s : List ℕ) (st : Stand) (next : ℕ) → next_of st ≡ Some next → turns_left s (run_at w s next) < turns_left s st
+turns-fall w s st next leads =
+    let none : 0 < suc (suc (length s) - next) = suc-le-suc zero-le in
+    subst (λ n. turns_left s (run_at w s next) < n) (sym (turns_at s st next leads))
+    (headed-cases w s next (λ x. turns_left s x < suc (suc (length s) - next)) none (λ f. none) (read_vlq s next)
+    (λ h k n read there. let some = read_some s next h k read in omega arith)
+    (λ h k g read. let some = read_some s next h k read in let inside = read-within s next h k read in omega arith))
 
 -- ---- the values of a run
 

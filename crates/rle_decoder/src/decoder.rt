@@ -24,14 +24,12 @@ pub struct RleDecoder<'a> {
 }
 
 impl<'a> RleDecoder<'a> {
-    ghost use Rattle.std.specs.Prelude.{◌+◌, ◌-◌, min, List, [], map, take, if◌then◌else◌, Err, nat_lt};
-    ghost use Rattle.column.specs.Pages.{end, opened};
+    ghost use Rattle.std.specs.Prelude.{◌+◌, ◌-◌, min, map, take, if◌then◌else◌, Err, nat_lt};
     ghost use Rattle.column.specs.Taking.{Opening, after_taking, cells_with, first_of, one_of, taking, taking_from};
     ghost use Rattle.column.specs.declared.Refusal.TheVariants.{ElementTooNarrow};
     ghost use Rattle.packed.specs.Bytes.{overwrite};
-    ghost use Rattle.rle.specs.Hybrid.{Hybrid};
-    ghost use Rattle.rle.specs.Lenient.{Lenient};
-    ghost use Rattle.rle.specs.Reading.{reads, run_at as stand_at, waiting_at};
+    ghost use Rattle.rle.specs.Reading.{reads, run_at as stand_at};
+    ghost use Rattle.rle_decoder.specs.Pages.{ReadIsLenient, StandingIsRead};
     ghost use Rattle.rle_decoder.specs.Decoder.{Refilled, Took, left_of, page_of, state_of, waiting_of};
 
     /// A decoder of a page, which stands at its first value. A page says itself how many values it has.
@@ -40,17 +38,15 @@ impl<'a> RleDecoder<'a> {
     /// fault stands in the format, but for the named leniencies.
     pub fn open(page: &'a [u8], width: u32, _count: usize) -> Result<RleDecoder<'a>, Declined>
         ensures opening { Opening state_of (nat_le width 64) width page.now (reads width page.now) result }
-        ensures standing { (vs : List ℕ) → Hybrid width page.now vs → reads width page.now ≡ opened (record { values = vs; ending = end }) }
-        ensures lenient { (vs : List ℕ) → waiting_at width page.now 0 ≡ record { values = vs; ending = end } → Lenient width page.now vs }
+        ensures standing { StandingIsRead width page.now }
+        ensures lenient { ReadIsLenient width page.now }
     {
         RleDecoder::open_page(page, width as usize)
     }
 
     // Reads the page's first run.
     fn open_page(page: &'a [u8], width: usize) -> Result<RleDecoder<'a>, Declined>
-        ensures opening { Opening state_of (nat_le width 64) width page.now (reads width page.now) result }
-        ensures standing { (vs : List ℕ) → Hybrid width page.now vs → reads width page.now ≡ opened (record { values = vs; ending = end }) }
-        ensures lenient { (vs : List ℕ) → waiting_at width page.now 0 ≡ record { values = vs; ending = end } → Lenient width page.now vs }
+        ensures { Opening state_of (nat_le width 64) width page.now (reads width page.now) result }
     {
         if !is_allowed(width) {
             return Err(Refusal::BadWidth.into());
@@ -67,7 +63,8 @@ impl<'a> RleDecoder<'a> {
     // Takes one value.
     pub(crate) fn take_one<E: Element>(&mut self) -> Result<Option<E>, Declined>
         ensures answer { result ≡ one_of E.Element (taking_from E.Element 1 (state_of self.old)) }
-        ensures state { state_of self.new ≡ after_taking (taking_from E.Element 1 (state_of self.old)) (state_of self.old) }
+        ensures state { state_of self.new
+            ≡ after_taking (taking_from E.Element 1 (state_of self.old)) (state_of self.old) }
     {
         self.check_element::<E>()?;
         if !self.refill(0)? {
@@ -81,8 +78,10 @@ impl<'a> RleDecoder<'a> {
     // Takes as many values as there are cells, or those that wait, into the first of them.
     pub(crate) fn take_values<E: Element>(&mut self, cells: &mut [E]) -> Result<usize, Declined>
         ensures answer { result ≡ (taking_from E.Element (length cells.old) (state_of self.old)).answer }
-        ensures cells { cells.new ≡ cells_with E.Element cells.old 0 (taking_from E.Element (length cells.old) (state_of self.old)) }
-        ensures state { state_of self.new ≡ after_taking (taking_from E.Element (length cells.old) (state_of self.old)) (state_of self.old) }
+        ensures cells { cells.new
+            ≡ cells_with E.Element cells.old 0 (taking_from E.Element (length cells.old) (state_of self.old)) }
+        ensures state { state_of self.new
+            ≡ after_taking (taking_from E.Element (length cells.old) (state_of self.old)) (state_of self.old) }
     {
         self.check_element::<E>()?;
         let mut taken = 0;
@@ -96,7 +95,8 @@ impl<'a> RleDecoder<'a> {
     // cells would be longer than the two.
     pub(crate) fn pass_values(&mut self, count: usize) -> Result<usize, Declined>
         ensures answer { result ≡ (taking count (waiting_of self.old)).answer }
-        ensures state { state_of self.new ≡ after_taking (taking count (waiting_of self.old)) (state_of self.old) }
+        ensures state { state_of self.new
+            ≡ after_taking (taking count (waiting_of self.old)) (state_of self.old) }
     {
         let mut passed = 0;
         while passed < count && self.refill(passed)? {
@@ -107,7 +107,8 @@ impl<'a> RleDecoder<'a> {
 
     // Refuses elements that have fewer bits than the column.
     fn check_element<E: Element>(&self) -> Result<(), Refusal>
-        ensures { result ≡ (if nat_lt E.Element.WIDTH self.now.width then Err ElementTooNarrow else Ok (record {})) }
+        ensures { result
+            ≡ (if nat_lt E.Element.WIDTH self.now.width then Err ElementTooNarrow else Ok (record {})) }
     {
         if (E::WIDTH as usize) < self.width {
             return Err(Refusal::ElementTooNarrow);
@@ -148,8 +149,9 @@ impl<'a> RleDecoder<'a> {
         ensures { result ≡ left_of self.now }
     {
         match self.run {
-            Ok(Some(Found::Repeated { count, .. } | Found::Packed { count, .. })) => count
-                - self.taken,
+            Ok(Some(Found::Repeated { count, .. } | Found::Packed { count, .. })) => {
+                count - self.taken
+            }
             Ok(None) | Err(_) => 0,
         }
     }
@@ -167,7 +169,8 @@ impl<'a> RleDecoder<'a> {
     // Takes values of the current run into the first cells, as many as fit or are left, and answers how many.
     fn take_run<E: Element>(&mut self, cells: &mut [E]) -> usize
         ensures count { result ≡ min (length cells.old) (left_of self.old) }
-        ensures cells { cells.new ≡ overwrite cells.old 0 (map E.Element.made (take result (waiting_of self.old).values)) }
+        ensures cells { cells.new
+            ≡ overwrite cells.old 0 (map E.Element.made (take result (waiting_of self.old).values)) }
         ensures took { Took self.old self.new result }
     {
         let count = self.left().min(cells.len());
@@ -189,7 +192,7 @@ impl<'a> RleDecoder<'a> {
         }
     }
 
-    // The next value of the current run. It stands beside `copy_run`, since a reader for one value is slower.
+    // The next value of the current run: its bits alone, with no reader set up for them.
     fn first(&self) -> u64
         requires { 0 < left_of self.now }
         ensures { first_of (λ v. v) (waiting_of self.now).values ≡ Some result }

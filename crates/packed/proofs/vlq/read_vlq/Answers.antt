@@ -18,15 +18,6 @@ loop-i-init c = (so-far-none c.args.page.now c.args.at c.requires, omega arith)
 pub returns-then-i-eq9 : goal.returns-then-i-eq9
 returns-then-i-eq9 c = told c.args.page.now c.args.at c.read_tenth.ensures
 
-pub read_tenth-requires : goal.read_tenth-requires
-read_tenth-requires c = record { nine = subst (λ i. SoFar c.args.page.now c.args.at i c.loop-i.value) c.if-i-eq9.true c.loop-i.invariant.0; tenth = omega arith }
-
-pub overflow_mul-value : goal.overflow_mul-value
-overflow_mul-value c = record { fits = omega (arith, c.loop-i.invariant.1) }
-
-pub overflow_shl-value : goal.overflow_shl-value
-overflow_shl-value c = omega (arith, c.loop-i.invariant.1)
-
 pub overflow_add-value : goal.overflow_add-value
 overflow_add-value c =
     let room : c.args.at + c.loop-i.i < length c.args.page.now = omega arith in

@@ -1,4 +1,4 @@
-use Rattle.std.proofs.Common.{◌≡◌, ℕ, ◌+◌, ◌-◌, ◌/◌, ◌%◌, ◌<◌, ◌≤◌, Bool, true, false, ltb, [], length, set, take, drop, Ok, sym, refl, ap, ◌∙◌, arith, zero-add}
+use Rattle.std.proofs.Common.{◌≡◌, ℕ, ◌+◌, ◌-◌, ◌/◌, ◌%◌, ◌<◌, ◌≤◌, Bool, true, false, ltb, [], length, set, take, drop, Ok, sym, ap, ◌∙◌, arith}
 use Rattle.std.proofs.lemmas.Bool.{ltb-true, ltb-false}
 use Rattle.packed.proofs.Overwrite.{overwrite-set, overwrite-none, overwrite-rest}
 use Rattle.packed.proofs.VlqLaws.{vlq-step, vlq-last, vlq-some, read-overwritten, read-fewest, length-rest}
@@ -13,9 +13,6 @@ more {n} e f = ltb-false n 128 (sym e ∙ f)
 
 last-digit : {n : ℕ} {b : Bool} → b ≡ ltb n 128 → b ≡ true → n < 128
 last-digit {n} e f = ltb-true n 128 (sym e ∙ f)
-
-pub loop-i-init : goal.loop-i-init
-loop-i-init c = (refl, zero-add (length (vlq c.args.v)))
 
 pub returns-then-is_last : goal.returns-then-is_last
 returns-then-is_last c =

@@ -11,6 +11,6 @@ invariant_of-self c =
     record {
       narrow = d.narrow;
       counted = zero-le;
-      in_page = run_in_page d.width (page_of d) c.args.at stand d.narrow c.run_at-self.ensures;
+      in_page = run_in_page d.width (page_of d) c.args.at stand c.run_at-self.ensures;
       value_fits = run_fits d.width (page_of d) c.args.at stand d.narrow c.run_at-self.ensures;
     }

@@ -4,7 +4,7 @@ use Rattle.std.proofs.lemmas.Result.{err_from_is_err_and}
 use Rattle.column.specs.Taking.{head_fault}
 use Rattle.rle.specs.Reading.{reads, run_at}
 use Rattle.rle.specs.Found.{found}
-use Rattle.rle_decoder.proofs.Opened.{standing, lenient, reads-opened, open-shut, fault-shuts}
+use Rattle.rle_decoder.proofs.Opened.{reads-opened, open-shut, fault-shuts}
 use Rattle.rle_decoder.proofs.Runs.{run_in_page, run_fits}
 use Rattle.rle_decoder.proofs.decoder.RleDecoder.open_page.Goals as goal
 
@@ -12,11 +12,7 @@ pub returns-then-not-is_allowed : goal.returns-then-not-is_allowed
 returns-then-not-is_allowed c =
     let w = c.args.width in
     let s = c.args.page.now in
-    record {
-      opening = cond-false (leb w 64) (head_fault (reads w s)) _ (sym c.if-not-is_allowed.ensures) ∙ ap Some (sym c.into.ensures);
-      standing = standing w s;
-      lenient = lenient w s (λ i. (c.type_inv.page i).fits);
-    }
+    cond-false (leb w 64) (head_fault (reads w s)) _ (sym c.if-not-is_allowed.ensures) ∙ ap Some (sym c.into.ensures)
 
 pub returns-in_err-run : goal.returns-in_err-run
 returns-in_err-run c =
@@ -24,11 +20,7 @@ returns-in_err-run c =
     let s = c.args.page.now in
     let small = leb-true w 64 (sym c.if-not-is_allowed.ensures) in
     let p = err_from_is_err_and c.from_residual.result c.from_residual.ensures.1 in
-    rw (p.1, p.2) record {
-      opening = fault-shuts w s c.in_err-run.field-0.0 small (sym c.run_at.ensures ∙ ap found c.in_err-run.was);
-      standing = standing w s;
-      lenient = lenient w s (λ i. (c.type_inv.page i).fits);
-    }
+    rw (p.1, p.2) (fault-shuts w s c.in_err-run.field-0.0 small (sym c.run_at.ensures ∙ ap found c.in_err-run.was))
 
 pub invariant_of-result : goal.invariant_of-result
 invariant_of-result c =
@@ -39,7 +31,7 @@ invariant_of-result c =
     record {
       narrow = small;
       counted = zero-le;
-      in_page = run_in_page w s 0 (found (Ok c.in_ok-run.run')) small stand;
+      in_page = run_in_page w s 0 (found (Ok c.in_ok-run.run')) stand;
       value_fits = run_fits w s 0 (found (Ok c.in_ok-run.run')) small stand;
     }
 
@@ -51,8 +43,4 @@ returns c =
     let run = c.in_ok-run.run' in
     let stand : found (Ok run) ≡ run_at w s 0 = sym (ap found c.in_ok-run.was) ∙ c.run_at.ensures in
     let read = reads-opened w s run stand in
-    record {
-      opening = (open-shut w s _ small read, read, refl, refl);
-      standing = standing w s;
-      lenient = lenient w s (λ i. (c.type_inv.page i).fits);
-    }
+    (open-shut w s _ small read, read, refl, refl)

@@ -12,7 +12,7 @@ loop-count-smaller c =
     let loaded = c.load.ensures in
     let leads : next_of (found d.run) ≡ Some c.next_after.result = search rules in
     subst (λ n. n < turns_left (page_of d) (found d.run)) (sym (ap₂ turns_left loaded.page loaded.run))
-    (turns-fall d.width (page_of d) (found d.run) c.next_after.result d.narrow leads)
+    (turns-fall d.width (page_of d) (found d.run) c.next_after.result leads)
 
 pub loop-count-preserved : goal.loop-count-preserved
 loop-count-preserved c =

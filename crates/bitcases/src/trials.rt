@@ -158,9 +158,5 @@ fn read_batch<T: Element + Clone + Into<u64>>(
 fn widened<T: Copy + Into<u64>>(heap: Global, cells: &[T]) -> Result<Vec<u64>, AllocError>
     ensures { IfOk result (λ v. vec_len v ≡ length cells.now) }
 {
-    let mut values = Vec::new(heap);
-    for cell in cells {
-        values.push((*cell).into())?;
-    }
-    Ok(values)
+    cells.iter().map(|cell| (*cell).into()).collect(heap)
 }

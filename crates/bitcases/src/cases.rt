@@ -1,5 +1,5 @@
 //! The cases of the table, and how a line says one.
-ghost use Rattle.std.specs.Prelude.{◌<◌, ◌≤◌};
+ghost use Rattle.std.specs.Prelude.{◌^◌, ◌<◌, ◌≤◌, ◌↔◌, IsTrue};
 
 use std::alloc::{AllocError, Global};
 use std::str::{FromStr, SplitWhitespace};
@@ -53,9 +53,18 @@ impl Layout {
         }
         Ok(Layout { width, lead })
     }
+
+    /// Whether a value has at most `width` bits.
+    pub fn fits(&self, value: u64) -> bool
+        ensures { IsTrue result ↔ (value < 2 ^ self.now.width) }
+    {
+        // No value can be shifted by 64. `checked_shr` and `is_none_or` are no plainer: they take an answer for each case.
+        self.width == 64 || value >> self.width == 0
+    }
 }
 
 /// The type of the cells that a batch is read into.
+// `rlecases` has such a type too, with three more variants: the few lines that both have are no crate of their own.
 #[derive(Clone, Copy, Debug, PartialEq, Eq)]
 pub enum Cell {
     U8,

@@ -1,5 +1,5 @@
 //! The calls of the bit layer that a case asks for. Each has a `requires`, which a test of the case meets.
-ghost use Rattle.std.specs.Prelude.{◌≡◌, ◌+◌, ◌*◌, ◌^◌, ◌<◌, ◌≤◌, length, IfOk, Ok, Err, vec_len, nat_lt};
+ghost use Rattle.std.specs.Prelude.{◌≡◌, ◌+◌, ◌*◌, ◌<◌, ◌≤◌, length, IfOk, Ok, Err, vec_len};
 ghost use Rattle.bit_reader.specs.Reader.{Inside, page};
 ghost use Rattle.bit_writer.specs.Writer.{bytes_for};
 ghost use Rattle.bitcases.specs.declared.answers.Answer.TheVariants.{Read};
@@ -84,7 +84,7 @@ fn put_values(out: &mut [u8], layout: Layout, values: &[u64]) -> Result<usize, R
     let mut writer = BitWriter::new(out);
     writer.put_value(0, layout.lead);
     for v in values {
-        if !fits(*v, layout.width) {
+        if !layout.fits(*v) {
             return Err(Refusal::ValueTooLarge);
         }
         writer.put_value(*v, layout.width);
@@ -92,13 +92,6 @@ fn put_values(out: &mut [u8], layout: Layout, values: &[u64]) -> Result<usize, R
     let written = writer.bytes_written();
     writer.flush();
     Ok(written)
-}
-
-fn fits(v: u64, width: usize) -> bool
-    requires { width ≤ 64 }
-    ensures { result ≡ nat_lt v (2 ^ width) }
-{
-    width == 64 || v >> width == 0
 }
 
 // A reader behind the lead, if the page has that many bits.

@@ -12,6 +12,6 @@ returns c =
     let bytes = packed_at c.args.num_bits c.args.patterns.now in
     let long : length (buffer w) ≡ length c.args.out.now = ap length c.new-writer.ensures.same in
     let filled : buffer c.put_packed.new.self ≡ bytes =
-    wrote-all w c.put_packed.new.self bytes c.new-writer.ensures.place c.new-writer.ensures.count (length_digits 256 _ _ ∙ sym (long ∙ c.requires.1.1)) c.put_packed.ensures.bytes in
+    wrote-all w c.put_packed.new.self bytes c.new-writer.ensures.place c.new-writer.ensures.count (length_digits 256 _ _ ∙ sym (long ∙ c.requires.filled)) c.put_packed.ensures.bytes in
     let lent = c.put_packed.ensures.lent ∙ c.new-writer.ensures.lent in
     search rules

@@ -16,8 +16,8 @@ loop-reading-init c =
       record {
         buffer_is = sym (overwrite-none (buffer w) w.byte_offset);
         place = omega arith;
-        held = c.requires.1.0;
-        count = c.requires.1.1.0;
+        held = c.requires.held;
+        count = c.requires.count;
       },
       omega arith,
       refl,
@@ -32,7 +32,7 @@ put_zigzag_vlq_int-requires c =
     let short : length (vlq (zigzag_of (to_z w64 (of_z w64 c.difference.result)))) ≤ 10 =
     subst (λ z. length (vlq (zigzag_of z)) ≤ 10) (sym (to_z-of_z w64 c.difference.result fits)) (difference-short c.difference.result fits) in (
       holds-none c.loop-reading.writer wrote.held wrote.count,
-      omega (arith, wrote.place, wrote.count, c.loop-reading.invariant.1, c.loop-reading.invariant.4, c.requires.0, c.requires.1.1.1),
+      omega (arith, wrote.place, wrote.count, c.loop-reading.invariant.1, c.loop-reading.invariant.4, c.requires.start, c.requires.room),
     )
 
 pub loop-reading-preserved : goal.loop-reading-preserved
@@ -51,7 +51,7 @@ loop-reading-preserved c =
     to_z-of_z w64 d fits ∙ c.difference.ensures ∙ ap₂ difference_of c.loop-reading.invariant.2 tick in
     let more = vlq (zigzag_of (difference_of (last_tick (pos 0) (take i rs)) r.tick)) in
     let put : Wrote w after (held_bytes w ++ more) = subst (λ z. Wrote w after (held_bytes w ++ vlq (zigzag_of z))) value c.put_zigzag_vlq_int.ensures.bytes in
-    let room : w.byte_offset ≤ length (buffer w) = omega (arith, c.loop-reading.invariant.0.place, c.loop-reading.invariant.1, c.loop-reading.invariant.4, c.requires.0, c.requires.1.1.1) in
+    let room : w.byte_offset ≤ length (buffer w) = omega (arith, c.loop-reading.invariant.0.place, c.loop-reading.invariant.1, c.loop-reading.invariant.4, c.requires.start, c.requires.room) in
     let next : take (i + 1) rs ≡ take i rs ++ r ∷ [] = take_more rs i r (omega arith) ∙ ap (λ x. take i rs ++ x ∷ []) (sym c.reading-item.is) in
     let bytes : front ++ more ≡ ticks_of (pos 0) (take (i + 1) rs) = sym (ap (ticks_of (pos 0)) next ∙ ticks-push (pos 0) (take i rs) r) in
     let wrote : Wrote start after (ticks_of (pos 0) (take (i + 1) rs)) =
@@ -63,7 +63,7 @@ loop-reading-preserved c =
       long,
       tick ∙ sym (ap (last_tick (pos 0)) next ∙ last-push (pos 0) (take i rs) r),
       c.put_zigzag_vlq_int.ensures.lent ∙ c.loop-reading.invariant.3,
-      wrote-long start after (ticks_of (pos 0) (take (i + 1) rs)) (omega (arith, c.requires.0, c.requires.1.1.1)) wrote,
+      wrote-long start after (ticks_of (pos 0) (take (i + 1) rs)) (omega (arith, c.requires.start, c.requires.room)) wrote,
     )
 
 pub returns : goal.returns
@@ -72,5 +72,5 @@ returns c =
     record {
       lent = c.loop-reading.invariant.3;
       bytes = subst (λ l. Wrote c.args.writer.now c.loop-reading.writer (ticks_of (pos 0) l)) all c.loop-reading.invariant.0;
-      room = subst (λ l. length (ticks_of (pos 0) l) ≤ length (buffer c.args.writer.now)) all (omega (arith, c.loop-reading.invariant.1, c.requires.1.1.1));
+      room = subst (λ l. length (ticks_of (pos 0) l) ≤ length (buffer c.args.writer.now)) all (omega (arith, c.loop-reading.invariant.1, c.requires.room));
     }

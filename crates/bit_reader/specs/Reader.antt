@@ -10,15 +10,14 @@ page r = r.buffer.now
 abbrev pub position : BitReader → ℕ
 position r = 8 * r.byte_offset + r.bit_offset
 
-pub record Inside (r : BitReader) : Type 0 where
-  pub bit : r.bit_offset < 8
-  pub within : position r ≤ 8 * length (page r)
+-- There are k values of w bits from where a reader stands.
+abbrev pub HasValues : BitReader → ℕ → ℕ → Type 0
+HasValues r w k = position r + k * w ≤ 8 * length (page r)
 
 -- A reader that stands at bit p of the same page now.
 pub record Moved (before after : BitReader) (p : ℕ) : Type 0 where
   pub same : page after ≡ page before
   pub to : position after ≡ p
-  pub inside : Inside after
 
 -- The first byte of which no bit was read.
 abbrev pub next_byte : BitReader → ℕ

@@ -1,3 +1,4 @@
+pub mod Heads
 pub mod Pages
 pub mod Putting
 pub mod Refusals

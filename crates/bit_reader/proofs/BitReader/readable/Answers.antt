@@ -15,7 +15,7 @@ returns-then-num_values-num_bits c =
     let r = c.args.self.now in
     let left = (length (page r) - r.byte_offset) * 8 - r.bit_offset in
     let same : left ≡ 8 * length (page r) - position r = omega arith in
-    counted (page r) (position r) c.args.num_bits c.args.num_values c.args.num_values left c.requires.0.within same
+    counted (page r) (position r) c.args.num_bits c.args.num_values c.args.num_values left r.in_page same
     (all_fit left c.args.num_bits c.args.num_values c.if-num_values-num_bits.true)
 
 pub returns-else-num_values-num_bits : goal.returns-else-num_values-num_bits
@@ -23,5 +23,5 @@ returns-else-num_values-num_bits c =
     let r = c.args.self.now in
     let left = (length (page r) - r.byte_offset) * 8 - r.bit_offset in
     let same : left ≡ 8 * length (page r) - position r = omega arith in
-    counted (page r) (position r) c.args.num_bits c.args.num_values (left / c.args.num_bits) left c.requires.0.within same
+    counted (page r) (position r) c.args.num_bits c.args.num_values (left / c.args.num_bits) left r.in_page same
     (some_fit left c.args.num_bits c.args.num_values c.if-num_values-num_bits.false)

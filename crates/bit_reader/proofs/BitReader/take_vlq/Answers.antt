@@ -19,7 +19,6 @@ returns c =
       moved =
           record {
             same = refl;
-            to = omega (arith, taken, c.requires.1);
-            inside = record { bit = omega (arith, c.requires.1); within = omega (arith, inside, c.requires.1) };
+            to = omega (arith, taken);
           };
     }

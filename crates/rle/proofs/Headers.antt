@@ -14,10 +14,10 @@ cut-or-fault : (w : ℕ) (s : List ℕ) (at : ℕ) (f : Fault) (t : Bool) → co
 cut-or-fault w s at f true = refl
 cut-or-fault w s at f false = refl
 
-pub headed-by : (w : ℕ) (s : List ℕ) (at : ℕ) (r : Result (ℕ × ℕ) Fault) → headed w s at r ≡ headed_by w s at (header_of r)
+pub headed_of : (w : ℕ) (s : List ℕ) (at : ℕ) (r : Result (ℕ × ℕ) Fault) → headed w s at r ≡ headed_by w s at (header_of r)
 unfolding headed
-headed-by w s at (Ok r) = refl
-headed-by w s at (Err f) = cut-or-fault w s at f (ends_page f.kind)
+headed_of w s at (Ok r) = refl
+headed_of w s at (Err f) = cut-or-fault w s at f (ends_page f.kind)
 
 -- how many bytes a header takes
 abbrev pub taken_of : Result (Option (ℕ × ℕ)) Fault → ℕ

@@ -12,7 +12,7 @@ use packed::Element;
 
 /// What the pages of a coding mean, at each width that it has.
 ///
-/// It has no lifetime, since a law of a trait with one is not proved.
+/// It is a trait of its own, on a type without values: the encoder's clauses name it too, and an encoder knows no coding.
 pub trait Meaning {
     /// The widths that the coding has.
     ghost allows: { ℕ → Bool };
@@ -25,6 +25,10 @@ pub trait Meaning {
 
     /// What a page reads as, given how many values it holds.
     ghost reads: { ℕ → ℕ → List ℕ → Reading };
+
+    /// Whether the coding has a width.
+    fn has_width(width: u32) -> bool
+        ensures { result ≡ allows width };
 
     /// No width is above 64.
     ghost widths_are_narrow: { (w : ℕ) → T (allows w) → w ≤ 64 };

@@ -7,7 +7,7 @@ use crate::coding::Encoder;
 use packed::Element;
 
 /// How many values of a list were accepted, and why the next was not.
-#[derive(Clone, Copy)]
+#[derive(Clone, Copy, Debug, PartialEq, Eq)]
 pub struct PutList {
     pub count: usize,
     pub refusal: Option<Refusal>,

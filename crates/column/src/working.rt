@@ -12,21 +12,21 @@ use crate::putting::{PutList, put_list};
 use packed::Element;
 
 /// A call that puts: one value, or a list of them as a part of a slice.
-#[derive(Clone, Copy)]
+#[derive(Clone, Copy, Debug, PartialEq, Eq)]
 pub enum PutCall<E> {
     One(E),
     List { from: usize, to: usize },
 }
 
 /// A call that puts, and how many of its values were accepted and why the next was not.
-#[derive(Clone, Copy)]
+#[derive(Clone, Copy, Debug, PartialEq, Eq)]
 pub struct Put<E> {
     pub call: PutCall<E>,
     pub answer: Option<PutList>,
 }
 
 /// A call that takes: one value, values into a part of the cells, or values that are passed over.
-#[derive(Clone, Copy)]
+#[derive(Clone, Copy, Debug, PartialEq, Eq)]
 pub enum TakeCall {
     Get,
     Batch { from: usize, to: usize },
@@ -34,14 +34,14 @@ pub enum TakeCall {
 }
 
 /// What a call that takes answered.
-#[derive(Clone, Copy)]
+#[derive(Clone, Copy, Debug, PartialEq, Eq)]
 pub enum TakeAnswer<E> {
     Got(Result<Option<E>, Declined>),
     Took(Result<usize, Declined>),
 }
 
 /// A call that takes, and its answer.
-#[derive(Clone, Copy)]
+#[derive(Clone, Copy, Debug, PartialEq, Eq)]
 pub struct Take<E> {
     pub call: TakeCall,
     pub answer: Option<TakeAnswer<E>>,

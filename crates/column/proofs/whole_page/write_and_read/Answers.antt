@@ -13,7 +13,7 @@ use Rattle.column.proofs.whole_page.write_and_read.Goals as goal
 pub trip : (g : given.Over) → ReturnTrip g.C.Code.Meaning.allows g.C.Code.Meaning.page g.C.Code.Meaning.need g.C.Code.Meaning.reads
 trip g =
     let m = g.C.Code.Meaning in
-    let met = g.C.Code.Meaning in
+    let met = g.met.C.Code.Meaning in
     return-trip m.allows m.page m.need m.reads met.widths_are_narrow met.written_is_read met.page_within_need
 
 pub returns-in_err-pass : goal.returns-in_err-pass

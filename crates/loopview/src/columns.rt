@@ -3,8 +3,9 @@ ghost use Rattle.std.specs.Prelude.{◌≡◌, ℕ, ◌+◌, ◌*◌, ◌^◌, �
 ghost use Rattle.std.specs.List.{zip};
 ghost use Rattle.loopview.specs.Readings.{is_same};
 ghost use Rattle.std.specs.Int.{int_wrap, w64};
-ghost use Rattle.bit_writer.specs.Writer.{Wrote, buffer, bytes_for};
-ghost use Rattle.loopview.specs.Columns.{Before, Packs, difference_of, packed_at, packed_of, pattern_of, ticks_of, unpacked_at, unpacked_of, width_of};
+ghost use Rattle.bit_writer.specs.Sizes.{bytes_for};
+ghost use Rattle.bit_writer.specs.Writer.{AllFit, HasRoom, HoldsNone, Wrote, packed_bytes};
+ghost use Rattle.loopview.specs.Columns.{Before, Packs, difference_of, packed_of, pattern_of, ticks_of, unpacked_at, unpacked_of, width_of};
 ghost use Rattle.loopview.specs.declared.columns.ReadError.TheVariants.{Memory};
 
 use crate::readings::Reading;
@@ -49,7 +50,7 @@ impl PackedColumn {
     /// The column's values, one for each reading.
     fn patterns(self, heap: Global, readings: &[Reading]) -> Result<Vec<u64>, AllocError>
         ensures values { IfOk result (λ v. v.items ≡ map (pattern_of self) readings.now) }
-        ensures below { IfOk result (λ v. (i : ℕ) → i < length v.items → slice_index v.items i < 2 ^ width_of self) }
+        ensures fit { IfOk result (λ v. AllFit (width_of self) v.items) }
     {
         readings
             .iter()
@@ -97,9 +98,9 @@ fn unpack_into(cells: &mut [u8], bytes: &[u8], num_bits: usize) -> usize
 /// Packs `patterns` into `out`, which they fill.
 fn pack_into(out: &mut [u8], patterns: &[u64], num_bits: usize)
     requires width { num_bits ≤ 64 }
-    requires fit { (i : ℕ) → i < length patterns.now → slice_index patterns.now i < 2 ^ num_bits }
+    requires fit { AllFit num_bits patterns.now }
     requires filled { length out.old ≡ bytes_for (length patterns.now * num_bits) }
-    ensures { out.new ≡ packed_at num_bits patterns.now }
+    ensures { out.new ≡ packed_bytes num_bits patterns.now }
 {
     let mut writer = BitWriter::new(out);
     writer.put_packed(patterns, num_bits);
@@ -108,8 +109,8 @@ fn pack_into(out: &mut [u8], patterns: &[u64], num_bits: usize)
 /// The bytes of `patterns`, packed at `num_bits` bits each.
 fn pack_patterns(heap: Global, patterns: &[u64], num_bits: usize) -> Result<Vec<u8>, AllocError>
     requires width { num_bits ≤ 64 }
-    requires fit { (i : ℕ) → i < length patterns.now → slice_index patterns.now i < 2 ^ num_bits }
-    ensures { IfOk result (λ v. v.items ≡ packed_at num_bits patterns.now) }
+    requires fit { AllFit num_bits patterns.now }
+    ensures { IfOk result (λ v. v.items ≡ packed_bytes num_bits patterns.now) }
 {
     let Some(bits) = patterns.len().checked_mul(num_bits) else {
         return Err(AllocError);
@@ -128,13 +129,10 @@ fn difference(tick: i64, before: i64) -> i64
 
 /// Writes each tick as its difference to the tick before, the first as that to 0.
 fn put_ticks(writer: &mut BitWriter<'_>, readings: &[Reading])
-    requires start { writer.old.byte_offset ≡ 0 }
-    requires held { writer.old.buffered_values ≡ 0 }
-    requires count { writer.old.bit_offset ≡ 0 }
-    requires room { length readings.now * 10 ≤ length (buffer writer.old) }
-    ensures lent { writer.new.out.ghost_name ≡ writer.old.out.ghost_name }
+    requires none { HoldsNone writer.old }
+    requires room { HasRoom writer.old (length readings.now * 10) }
     ensures bytes { Wrote writer.old writer.new (ticks_of (pos 0) readings.now) }
-    ensures room { length (ticks_of (pos 0) readings.now) ≤ length (buffer writer.old) }
+    ensures room { HasRoom writer.old (length (ticks_of (pos 0) readings.now)) }
 {
     let mut before = 0;
     for reading in readings {
@@ -305,7 +303,8 @@ fn layer_name(fault: &Fault) -> &'static str {
 
 /// How many readings came back as they were packed.
 pub fn count_equal(packed: &[Reading], back: &[Reading]) -> usize
-    ensures { result ≡ count_by (λ p. is_same p.0 p.1) (zip packed.now back.now) }
+    ensures value { result ≡ count_by (λ p. is_same p.0 p.1) (zip packed.now back.now) }
+    ensures bound { result ≤ length packed.now }
 {
     packed
         .iter()

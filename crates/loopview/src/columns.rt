@@ -210,7 +210,7 @@ fn join(
 }
 
 /// The bytes of the three columns, with the number of readings, which the bytes do not tell.
-#[derive(Drop)]
+#[derive(Debug, PartialEq, Eq, Drop)]
 pub struct Columns {
     count: usize,
     addresses: Vec<u8>,
@@ -266,7 +266,7 @@ fn write_column<W: fmt::Write>(f: &mut fmt::Formatter<W>, name: &str, bytes: &[u
 
 /// Why the readings were not read back.
 // `From` is written by hand, since the contracts of `unpack` and `read_back` need what it gives.
-#[derive(Debug, Drop, Error)]
+#[derive(Clone, Copy, Debug, PartialEq, Eq, Error)]
 pub enum ReadError {
     /// There was no memory for the readings.
     #[error("no memory to read the columns back")]

@@ -40,7 +40,7 @@ enum Request {
 }
 
 /// A word of the command line that the program does not know.
-#[derive(Debug, Drop, Error)]
+#[derive(Debug, PartialEq, Eq, Drop, Error)]
 #[error("unknown word {0:?}: see loopview --help")]
 struct UnknownWord(String);
 

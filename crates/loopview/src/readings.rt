@@ -184,7 +184,7 @@ fn parse_line(line: &str) -> Result<Reading, Reason> {
 
 /// Why there are no readings.
 // `From` is written by hand, since the contract of `parse` needs what it gives.
-#[derive(Debug, Drop, Error)]
+#[derive(Clone, Copy, Debug, Error)]
 pub enum ParseError {
     /// There was no memory for the readings.
     #[error("no memory for the readings")]

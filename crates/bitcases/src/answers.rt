@@ -1,10 +1,10 @@
 //! What the table is answered with.
-use bits::{Fault, Layer};
+use bits::Fault;
 use std::fmt;
 use std::fmt::Display;
 
 /// What a call of `read_vlq` gave: a number and how many bytes it took, or a fault.
-#[derive(Clone, Copy)]
+#[derive(Clone, Copy, Debug, PartialEq, Eq)]
 pub struct VlqRead {
     pub outcome: Result<(u64, usize), Fault>,
 }
@@ -13,22 +13,13 @@ impl fmt::Display for VlqRead {
     fn fmt<W: fmt::Write>(&self, f: &mut fmt::Formatter<W>) -> fmt::Result {
         match self.outcome {
             Ok((value, taken)) => write!(f, "{value} in {taken}"),
-            Err(fault) => {
-                let number = fault.number();
-                let place = fault.place;
-                let layer = match fault.layer() {
-                    Layer::Bits => "bits",
-                    Layer::Column => "column",
-                    Layer::Count => "count",
-                };
-                write!(f, "fault {number} at {place}, layer {layer}")
-            }
+            Err(fault) => write!(f, "{fault}, layer {}", fault.layer()),
         }
     }
 }
 
 /// The answer to a case.
-#[derive(Drop)]
+#[derive(Debug, PartialEq, Eq, Drop)]
 pub enum Answer {
     Vlq {
         bytes: Vec<u8>,

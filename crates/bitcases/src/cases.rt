@@ -1,64 +1,38 @@
 //! The cases of the table, and how a line says one.
-ghost use Rattle.std.specs.Prelude.{◌<◌, ◌≤◌};
+ghost use Rattle.std.specs.Prelude.{◌^◌, ◌<◌, ◌≤◌, ◌↔◌, IsTrue};
 
-use std::alloc::{AllocError, AllocFailed, Global};
-use std::fmt;
+use std::alloc::{AllocError, Global};
 use std::str::{FromStr, SplitWhitespace};
+use thiserror::Error;
 
 /// How many values or cells a line may have.
 pub const MOST_VALUES: usize = 128;
 
 /// Why a line has no answer.
-#[derive(Clone, Copy)]
+#[derive(Clone, Copy, Debug, PartialEq, Eq, Error)]
 pub enum Refusal {
-    NoMemory,
+    #[error("no memory")]
+    Memory(#[from(alloc)] AllocError),
+    #[error("unknown command")]
     UnknownCommand,
+    #[error("unknown cell type")]
     UnknownCell,
+    #[error("bad number")]
     BadNumber,
+    #[error("width above 64")]
     WidthTooLarge,
+    #[error("lead above 7")]
     LeadTooLarge,
+    #[error("value not below 2^width")]
     ValueTooLarge,
+    #[error("too many values")]
     TooManyValues,
+    #[error("place behind the data")]
     PlaceBehindData,
 }
 
-impl Refusal {
-    fn reason(&self) -> &'static str {
-        match self {
-            Refusal::NoMemory => "no memory",
-            Refusal::UnknownCommand => "unknown command",
-            Refusal::UnknownCell => "unknown cell type",
-            Refusal::BadNumber => "bad number",
-            Refusal::WidthTooLarge => "width above 64",
-            Refusal::LeadTooLarge => "lead above 7",
-            Refusal::ValueTooLarge => "value not below 2^width",
-            Refusal::TooManyValues => "too many values",
-            Refusal::PlaceBehindData => "place behind the data",
-        }
-    }
-}
-
-impl From<AllocError> for Refusal {
-    fn from(_e: AllocError) -> Self {
-        Refusal::NoMemory
-    }
-}
-
-impl<T: Drop> From<AllocFailed<T>> for Refusal {
-    fn from(_e: AllocFailed<T>) -> Self {
-        Refusal::NoMemory
-    }
-}
-
-impl fmt::Display for Refusal {
-    fn fmt<W: fmt::Write>(&self, f: &mut fmt::Formatter<W>) -> fmt::Result {
-        f.write_str("? ")?;
-        f.write_str(self.reason())
-    }
-}
-
 /// Values of `width` bits each, one behind the other from the bit `lead` on.
-#[derive(Clone, Copy)]
+#[derive(Clone, Copy, Debug, PartialEq, Eq)]
 pub struct Layout {
     pub width: usize,
     pub lead: usize,
@@ -67,9 +41,10 @@ pub struct Layout {
 }
 
 impl Layout {
-    fn parse(width: Option<&str>, lead: Option<&str>) -> Result<Layout, Refusal> {
-        let width: usize = number(width)?;
-        let lead: usize = number(lead)?;
+    // It takes two words of a line, so it is no `FromStr`, which has one text.
+    fn parse(words: &mut SplitWhitespace<'_>) -> Result<Layout, Refusal> {
+        let width: usize = number(words.next())?;
+        let lead: usize = number(words.next())?;
         if width > 64 {
             return Err(Refusal::WidthTooLarge);
         }
@@ -78,10 +53,19 @@ impl Layout {
         }
         Ok(Layout { width, lead })
     }
+
+    /// Whether a value has at most `width` bits.
+    pub fn fits(&self, value: u64) -> bool
+        ensures { IsTrue result ↔ (value < 2 ^ self.now.width) }
+    {
+        // No value can be shifted by 64. `checked_shr` and `is_none_or` are no plainer: they take an answer for each case.
+        self.width == 64 || value >> self.width == 0
+    }
 }
 
 /// The type of the cells that a batch is read into.
-#[derive(Clone, Copy)]
+// `rlecases` has such a type too, with three more variants: the few lines that both have are no crate of their own.
+#[derive(Clone, Copy, Debug, PartialEq, Eq)]
 pub enum Cell {
     U8,
     U16,
@@ -89,35 +73,37 @@ pub enum Cell {
     U64,
 }
 
-impl Cell {
-    fn parse(word: Option<&str>) -> Result<Cell, Refusal> {
+impl FromStr for Cell {
+    type Err = Refusal;
+
+    fn from_str(word: &str) -> Result<Cell, Refusal> {
         match word {
-            Some("u8") => Ok(Cell::U8),
-            Some("u16") => Ok(Cell::U16),
-            Some("u32") => Ok(Cell::U32),
-            Some("u64") => Ok(Cell::U64),
+            "u8" => Ok(Cell::U8),
+            "u16" => Ok(Cell::U16),
+            "u32" => Ok(Cell::U32),
+            "u64" => Ok(Cell::U64),
             _ => Err(Refusal::UnknownCell),
         }
     }
 }
 
 /// Values to pack.
-#[derive(Drop)]
+#[derive(Debug, PartialEq, Eq, Drop)]
 pub struct Packing {
     pub layout: Layout,
     pub values: Vec<u64>,
 }
 
 impl Packing {
-    fn parse(heap: Global, mut words: SplitWhitespace<'_>) -> Result<Case, Refusal> {
-        let layout = Layout::parse(words.next(), words.next())?;
-        let values = parse_values(heap, words)?;
-        Ok(Case::Pack(Packing { layout, values }))
+    fn parse(heap: Global, mut words: SplitWhitespace<'_>) -> Result<Packing, Refusal> {
+        let layout = Layout::parse(&mut words)?;
+        let values = words.map(|word| number(Some(word))).try_collect(heap)?;
+        Ok(Packing { layout, values })
     }
 }
 
 /// A page to read a batch of values from.
-#[derive(Drop)]
+#[derive(Debug, PartialEq, Eq, Drop)]
 pub struct Batch {
     pub layout: Layout,
     pub cell: Cell,
@@ -126,22 +112,22 @@ pub struct Batch {
 }
 
 impl Batch {
-    fn parse(heap: Global, mut words: SplitWhitespace<'_>) -> Result<Case, Refusal> {
-        let layout = Layout::parse(words.next(), words.next())?;
-        let cell = Cell::parse(words.next())?;
+    fn parse(heap: Global, mut words: SplitWhitespace<'_>) -> Result<Batch, Refusal> {
+        let layout = Layout::parse(&mut words)?;
+        let cell = words.next().ok_or(Refusal::UnknownCell)?.parse()?;
         let cells = number(words.next())?;
         let page = parse_bytes(heap, words)?;
-        Ok(Case::Batch(Batch {
+        Ok(Batch {
             layout,
             cell,
             cells,
             page,
-        }))
+        })
     }
 }
 
 /// What a line asks for.
-#[derive(Drop)]
+#[derive(Debug, PartialEq, Eq, Drop)]
 pub enum Case {
     Vlq(u64),
     ReadVlq { place: usize, page: Vec<u8> },
@@ -151,23 +137,20 @@ pub enum Case {
 }
 
 impl Case {
-    /// The case of a line: a command, and its words behind it.
+    /// The case of a line: a command, and its words behind it. It makes lists, so it is no `FromStr`, which has no heap.
     pub fn parse(heap: Global, line: &str) -> Result<Case, Refusal> {
         let mut words = line.split_whitespace();
         match words.next() {
             Some("vlq") => Ok(Case::Vlq(number(words.next())?)),
-            Some("readvlq") => Case::parse_read(heap, words),
+            Some("readvlq") => Ok(Case::ReadVlq {
+                place: number(words.next())?,
+                page: parse_bytes(heap, words)?,
+            }),
             Some("zigzag") => Ok(Case::Zigzag(number(words.next())?)),
-            Some("pack") => Packing::parse(heap, words),
-            Some("batch") => Batch::parse(heap, words),
+            Some("pack") => Ok(Case::Pack(Packing::parse(heap, words)?)),
+            Some("batch") => Ok(Case::Batch(Batch::parse(heap, words)?)),
             _ => Err(Refusal::UnknownCommand),
         }
-    }
-
-    fn parse_read(heap: Global, mut words: SplitWhitespace<'_>) -> Result<Case, Refusal> {
-        let place = number(words.next())?;
-        let page = parse_bytes(heap, words)?;
-        Ok(Case::ReadVlq { place, page })
     }
 }
 
@@ -175,34 +158,13 @@ fn number<N: FromStr + Drop>(word: Option<&str>) -> Result<N, Refusal>
 where
     N::Err: Drop,
 {
-    let Some(text) = word else {
-        return Err(Refusal::BadNumber);
-    };
-    match text.parse::<N>() {
-        Ok(n) => Ok(n),
-        Err(_) => Err(Refusal::BadNumber),
-    }
-}
-
-fn parse_values(heap: Global, words: SplitWhitespace<'_>) -> Result<Vec<u64>, Refusal> {
-    let mut values = Vec::new(heap);
-    for word in words {
-        match word.parse::<u64>() {
-            Ok(value) => values.push(value)?,
-            Err(_) => return Err(Refusal::BadNumber),
-        }
-    }
-    Ok(values)
+    word.and_then(|word| word.parse().ok())
+        .ok_or(Refusal::BadNumber)
 }
 
 // Bytes are in hexadecimal.
 fn parse_bytes(heap: Global, words: SplitWhitespace<'_>) -> Result<Vec<u8>, Refusal> {
-    let mut bytes = Vec::new(heap);
-    for word in words {
-        match u8::from_str_radix(word, 16) {
-            Ok(byte) => bytes.push(byte)?,
-            Err(_) => return Err(Refusal::BadNumber),
-        }
-    }
-    Ok(bytes)
+    words
+        .map(|word| u8::from_str_radix(word, 16).map_err(|_| Refusal::BadNumber))
+        .try_collect(heap)
 }

@@ -7,8 +7,10 @@ mod cases;
 mod trials;
 
 use std::io;
+use std::process::ExitCode;
 
-fn main(rt: HostRuntime) -> io::Result<()> {
+/// Answers each line of the standard input.
+fn run(rt: &HostRuntime) -> anyhow::Result<()> {
     let heap = rt.alloc();
     let text = io::read_to_string(heap, rt.stdin())?;
     for line in text.lines() {
@@ -16,9 +18,17 @@ fn main(rt: HostRuntime) -> io::Result<()> {
             continue;
         }
         match trials::answer(heap, line) {
-            Ok(answer) => rt.println(answer)?,
-            Err(refusal) => rt.println(refusal)?,
+            Ok(answer) => println!(rt; "{answer}")?,
+            Err(refusal) => println!(rt; "? {refusal}")?,
         }
     }
     Ok(())
+}
+
+fn main(rt: HostRuntime) -> ExitCode {
+    let Err(fault) = run(&rt) else {
+        return ExitCode::SUCCESS;
+    };
+    let _ = eprintln!(rt; "bitcases: {fault}");
+    ExitCode::FAILURE
 }

@@ -1,7 +1,7 @@
 //! The calls of the bit layer that a case asks for. Each has a `requires`, which a test of the case meets.
-ghost use Rattle.std.specs.Prelude.{◌≡◌, ◌+◌, ◌*◌, ◌^◌, ◌<◌, ◌≤◌, length, IfOk, Ok, Err, vec_len, nat_lt};
-ghost use Rattle.bit_reader.specs.Reader.{Inside, page};
-ghost use Rattle.bit_writer.specs.Writer.{bytes_for};
+ghost use Rattle.std.specs.Prelude.{◌≡◌, ◌+◌, ◌*◌, ◌<◌, ◌≤◌, length, IfOk, Ok, Err, vec_len};
+ghost use Rattle.bit_reader.specs.Reader.{page};
+ghost use Rattle.bit_writer.specs.Sizes.{bytes_for};
 ghost use Rattle.bitcases.specs.declared.answers.Answer.TheVariants.{Read};
 ghost use Rattle.bitcases.specs.declared.cases.Refusal.TheVariants.{PlaceBehindData};
 ghost use Rattle.packed.specs.Vlq.{read_vlq};
@@ -84,7 +84,7 @@ fn put_values(out: &mut [u8], layout: Layout, values: &[u64]) -> Result<usize, R
     let mut writer = BitWriter::new(out);
     writer.put_value(0, layout.lead);
     for v in values {
-        if !fits(*v, layout.width) {
+        if !layout.fits(*v) {
             return Err(Refusal::ValueTooLarge);
         }
         writer.put_value(*v, layout.width);
@@ -94,17 +94,9 @@ fn put_values(out: &mut [u8], layout: Layout, values: &[u64]) -> Result<usize, R
     Ok(written)
 }
 
-fn fits(v: u64, width: usize) -> bool
-    requires { width ≤ 64 }
-    ensures { result ≡ nat_lt v (2 ^ width) }
-{
-    width == 64 || v >> width == 0
-}
-
 // A reader behind the lead, if the page has that many bits.
 fn reader_behind<'a>(bytes: &'a [u8], layout: Layout) -> BitReader<'a>
-    ensures same { page result ≡ bytes.now }
-    ensures inside { Inside result }
+    ensures { page result ≡ bytes.now }
 {
     let mut reader = BitReader::new(bytes);
     reader.skip(1, layout.lead);
@@ -117,14 +109,14 @@ fn take_values<T: Element + Into<u64>>(
     mut reader: BitReader<'_>,
     layout: Layout,
     count: usize,
-) -> Result<Vec<u64>, AllocError>
-    requires { Inside reader }
-{
+) -> Result<Vec<u64>, AllocError> {
     let mut values = Vec::new(heap);
+    // Each read moves the reader: under `map_while` that closure is not proved without clauses of its own.
     for _ in 0..count {
-        if let Some(value) = reader.get_value(layout.width) {
-            values.push(T::from_pattern(value).into())?;
-        }
+        let Some(value) = reader.get_value(layout.width) else {
+            break;
+        };
+        values.push(T::from_pattern(value).into())?;
     }
     Ok(values)
 }
@@ -158,9 +150,5 @@ fn read_batch<T: Element + Clone + Into<u64>>(
 fn widened<T: Copy + Into<u64>>(heap: Global, cells: &[T]) -> Result<Vec<u64>, AllocError>
     ensures { IfOk result (λ v. vec_len v ≡ length cells.now) }
 {
-    let mut values = Vec::new(heap);
-    for cell in cells {
-        values.push((*cell).into())?;
-    }
-    Ok(values)
+    cells.iter().map(|cell| (*cell).into()).collect(heap)
 }

@@ -1,15 +1,16 @@
 -- How the bytes of the ticks grow, one reading after the other.
-use Rattle.std.proofs.Common.{◌≡◌, ℕ, ◌+◌, ◌^◌, ◌<◌, ◌≤◌, List, [], ◌∷◌, ◌++◌, length, take, ℤ, pos, negsuc, sym, refl, ap, ◌∙◌, subst, ap₂, zero-le, lt_of_lt_of_le, zero-add, arith, lit≤, w64, SFits}
-use Rattle.std.proofs.lemmas.List.{append_assoc, append-nil}
+use Rattle.std.proofs.Common.{◌≡◌, ℕ, ◌*◌, ◌^◌, ◌<◌, ◌≤◌, List, [], ◌∷◌, ◌++◌, length, take, ℤ, pos, negsuc, sym, refl, ap, ◌∙◌, subst, ap₂, zero-le, lt_of_lt_of_le, zero-add, arith, lit≤, w64, SFits}
+use Rattle.std.proofs.lemmas.List.{append_assoc, append-nil, length-append}
 use Rattle.packed.specs.Bytes.{overwrite}
 use Rattle.packed.specs.Digits.{digits}
 use Rattle.packed.specs.Vlq.{vlq}
 use Rattle.packed.specs.Zigzag.{zigzag_of}
-use Rattle.packed.proofs.Overwrite.{length-overwrite, overwrite-all, take-overwrite}
+use Rattle.packed.proofs.Overwrite.{overwrite-all, overwrite-none, take-overwrite}
 use Rattle.packed.proofs.VlqLaws.{length-vlq}
-use Rattle.bit_writer.specs.Writer.{Holds, Wrote, buffer, bytes_for, held_bytes}
+use Rattle.bit_writer.specs.Sizes.{bytes_for}
+use Rattle.bit_writer.specs.Writer.{Wrote, buffer, held_bytes}
 use Rattle.bit_writer.specs.declared.BitWriter.{BitWriter}
-use Rattle.bit_writer.proofs.Writing.{wrote-more}
+use Rattle.bit_writer.proofs.Writing.{wrote_buffer, wrote_place}
 use Rattle.loopview.specs.Columns.{difference_of, last_tick, ticks_of}
 use Rattle.loopview.specs.declared.readings.Reading.{Reading}
 
@@ -33,24 +34,10 @@ zigzag-below (negsuc n) f = omega (arith, f.sfits)
 pub difference-short : (z : ℤ) → SFits w64 z → length (vlq (zigzag_of z)) ≤ 10
 difference-short z f = length-vlq 9 (zigzag_of z) (lt_of_lt_of_le (zigzag-below z f) (lit≤ tt))
 
-pub holds-none : (w : BitWriter) → w.buffered_values ≡ 0 → w.bit_offset ≡ 0 → Holds w
-holds-none w held count =
-    record { count = omega arith; value = subst (λ n. w.buffered_values < 2 ^ n) (sym count) (omega arith) }
-
 -- a writer that holds no bits writes none before its next bytes
 pub held_none : (w : BitWriter) (more : List ℕ) → w.bit_offset ≡ 0 → held_bytes w ++ more ≡ more
 unfolding digits
 held_none w more e = ap (λ n. digits 256 (bytes_for n) w.buffered_values ++ more) e
-
--- more bytes, behind those that were written
-pub wrote_then : (a b c : BitWriter) (front more : List ℕ) → Wrote a b front → b.byte_offset ≤ length (buffer b) → Wrote b c (held_bytes b ++ more) → Wrote a c (front ++ more)
-wrote_then a b c front more w room v =
-    let e = held_none b more w.count in
-    wrote-more a b c front more w room
-    (v.buffer_is ∙ ap (λ l. overwrite (buffer b) b.byte_offset l) e)
-    (v.place ∙ ap (λ l. b.byte_offset + length l) e)
-    (v.held ∙ sym w.held)
-    (v.count ∙ sym w.count)
 
 -- what a writer wrote from the first byte on is the front of its buffer
 pub wrote-front : (a b : BitWriter) (bytes : List ℕ) → a.byte_offset ≡ 0 → Wrote a b bytes → take (length bytes) (buffer b) ≡ bytes
@@ -63,5 +50,49 @@ pub wrote-all : (a b : BitWriter) (bytes : List ℕ) → a.byte_offset ≡ 0 →
 wrote-all a b bytes start none long w =
     w.buffer_is ∙ ap₂ (overwrite (buffer a)) start (held_none a bytes none) ∙ overwrite-all (buffer a) bytes long
 
-pub wrote-long : (a b : BitWriter) (bytes : List ℕ) → a.byte_offset + length bytes ≤ length (buffer a) → Wrote a b bytes → length (buffer b) ≡ length (buffer a)
-wrote-long a b bytes room w = ap length w.buffer_is ∙ length-overwrite (buffer a) a.byte_offset bytes room
+-- The ticks of these readings are written, the last of them is known, and each took at most ten bytes.
+pub record WroteTicks (start now : BitWriter) (rs : List Reading) (last : ℤ) : Type 0 where
+  pub bytes : Wrote start now (ticks_of (pos 0) rs)
+  pub short : length (ticks_of (pos 0) rs) ≤ length rs * 10
+  pub tick : last ≡ last_tick (pos 0) rs
+
+-- none are written yet
+pub wrote-none : (w : BitWriter) → w.bit_offset ≡ 0 → WroteTicks w w [] (pos 0)
+unfolding ticks_of last_tick
+wrote-none w none =
+    record {
+      bytes = record {
+        buffer_is = sym (overwrite-none (buffer w) w.byte_offset);
+        place = omega arith;
+        held = omega (arith, subst (λ n. w.buffered_values < 2 ^ n) none w.small);
+        count = none;
+        room = refl;
+        lent = refl;
+      };
+      short = omega arith;
+      tick = refl;
+    }
+
+-- the tick of one reading more
+pub wrote-push : (start w after : BitWriter) (rs : List Reading) (last : ℤ) (r : Reading) (d : ℤ) → WroteTicks start w rs last
+    → d ≡ difference_of last r.tick → SFits w64 d → Wrote w after (held_bytes w ++ vlq (zigzag_of d)) → WroteTicks start after (rs ++ r ∷ []) r.tick
+wrote-push start w after rs last r d before is fits put =
+    let more = vlq (zigzag_of d) in
+    let own : Wrote w after more = subst (Wrote w after) (held_none w more before.bytes.count) put in
+    let next : ticks_of (pos 0) rs ++ more ≡ ticks_of (pos 0) (rs ++ r ∷ []) =
+    ap (λ z. ticks_of (pos 0) rs ++ vlq (zigzag_of z)) (is ∙ ap (λ t. difference_of t r.tick) before.tick) ∙ sym (ticks-push (pos 0) rs r) in
+    let all : Wrote start after (ticks_of (pos 0) rs ++ more) =
+    record {
+      buffer_is = wrote_buffer before.bytes own;
+      place = wrote_place before.bytes own;
+      held = own.held;
+      count = own.count;
+      room = own.room ∙ before.bytes.room;
+      lent = own.lent ∙ before.bytes.lent;
+    } in
+    record {
+      bytes = subst (Wrote start after) next all;
+      short = subst (λ l. length l ≤ length (rs ++ r ∷ []) * 10) next
+          (omega (arith, length-append (ticks_of (pos 0) rs) more, length-append rs (r ∷ []), before.short, difference-short d fits));
+      tick = sym (last-push (pos 0) rs r);
+    }

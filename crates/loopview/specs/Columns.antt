@@ -1,11 +1,10 @@
 -- The columns that readings are packed into.
-use Rattle.std.specs.Prelude.{◌≡◌, ℕ, ◌*◌, ◌%◌, ◌^◌, ◌<◌, List, [], ◌∷◌, ◌++◌, map, length, ℤ, pos, ◌-ℤ◌, vec_items}
+use Rattle.std.specs.Prelude.{◌≡◌, ℕ, ◌%◌, ◌^◌, ◌<◌, List, [], ◌∷◌, ◌++◌, map, length, ℤ, pos, ◌-ℤ◌, vec_items}
 use Rattle.std.specs.Int.{int_wrap, w64}
 use Rattle.packed.specs.Bytes.{cells_at}
-use Rattle.packed.specs.Digits.{digits, number}
 use Rattle.packed.specs.Vlq.{vlq}
 use Rattle.packed.specs.Zigzag.{zigzag_of}
-use Rattle.bit_writer.specs.Writer.{bytes_for}
+use Rattle.bit_writer.specs.Writer.{packed_bytes}
 use Rattle.loopview.specs.declared.readings.Reading.{Reading}
 use Rattle.loopview.specs.declared.columns.PackedColumn.{PackedColumn}
 use Rattle.loopview.specs.declared.columns.PackedColumn.TheVariants.{Address, Value}
@@ -23,12 +22,8 @@ abbrev pub pattern_of : PackedColumn → Reading → ℕ
 pattern_of Address r = r.address
 pattern_of Value r = r.value
 
--- Values of w bits each, one behind the other, the first lowest. The last byte is filled up with zero bits.
-abbrev pub packed_at : ℕ → List ℕ → List ℕ
-packed_at w vs = digits 256 (bytes_for (length vs * w)) (number (2 ^ w) vs)
-
 abbrev pub packed_of : PackedColumn → List Reading → List ℕ
-packed_of c rs = packed_at (width_of c) (map (pattern_of c) rs)
+packed_of c rs = packed_bytes (width_of c) (map (pattern_of c) rs)
 
 -- The k values of w bits that lie one behind the other from the first bit on, in cells of a byte each.
 abbrev pub unpacked_at : ℕ → ℕ → List ℕ → List ℕ

@@ -1,3 +1,4 @@
 pub mod Columns
 pub mod Fields
 pub mod Flags
+pub mod Readings

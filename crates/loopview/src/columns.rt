@@ -1,22 +1,25 @@
 //! The readings as three columns of bytes: addresses and values packed at one width each, and ticks by their differences.
-ghost use Rattle.std.specs.Prelude.{◌≡◌, ℕ, ◌+◌, ◌*◌, ◌^◌, ◌<◌, ◌≤◌, map, length, take, pos, ◌+ℤ◌, IfOk, IfErr, vec_len, slice_index};
+ghost use Rattle.std.specs.Prelude.{◌≡◌, ℕ, ◌+◌, ◌*◌, ◌^◌, ◌<◌, ◌≤◌, count_by, map, length, take, pos, ◌+ℤ◌, IfOk, IfErr, vec_len, slice_index};
+ghost use Rattle.std.specs.List.{zip};
+ghost use Rattle.loopview.specs.Readings.{is_same};
 ghost use Rattle.std.specs.Int.{int_wrap, w64};
-ghost use Rattle.bit_writer.specs.Writer.{Wrote, buffer, bytes_for};
-ghost use Rattle.loopview.specs.Columns.{Before, Packs, difference_of, packed_at, packed_of, pattern_of, ticks_of, unpacked_at, unpacked_of, width_of};
+ghost use Rattle.bit_writer.specs.Sizes.{bytes_for};
+ghost use Rattle.bit_writer.specs.Writer.{AllFit, HasRoom, HoldsNone, Wrote, packed_bytes};
+ghost use Rattle.loopview.specs.Columns.{Before, Packs, difference_of, packed_of, pattern_of, ticks_of, unpacked_at, unpacked_of, width_of};
 ghost use Rattle.loopview.specs.declared.columns.ReadError.TheVariants.{Memory};
 
 use crate::readings::Reading;
 use crate::report::HexFront;
 use bits::{BitReader, BitWriter, Fault, FaultKind, Layer};
 use std::alloc::{AllocError, AllocFailed, Global};
-use std::error::Error;
 use std::fmt;
+use thiserror::Error;
 
 /// The most bytes that the difference of two ticks takes: seven bits of 64 to a byte.
 const TICK_BYTES: usize = 10;
 
 /// A column whose values are packed at one width.
-#[derive(Clone, Copy)]
+#[derive(Clone, Copy, Debug, PartialEq, Eq)]
 enum PackedColumn {
     Address,
     Value,
@@ -47,13 +50,12 @@ impl PackedColumn {
     /// The column's values, one for each reading.
     fn patterns(self, heap: Global, readings: &[Reading]) -> Result<Vec<u64>, AllocError>
         ensures values { IfOk result (λ v. v.items ≡ map (pattern_of self) readings.now) }
-        ensures below { IfOk result (λ v. (i : ℕ) → i < length v.items → slice_index v.items i < 2 ^ width_of self) }
+        ensures fit { IfOk result (λ v. AllFit (width_of self) v.items) }
     {
-        let mut patterns = Vec::new(heap);
-        for reading in readings {
-            patterns.push(self.pattern(reading))?;
-        }
-        Ok(patterns)
+        readings
+            .iter()
+            .map(|reading| self.pattern(reading))
+            .collect(heap)
     }
 
     /// The column's bytes.
@@ -74,8 +76,10 @@ impl PackedColumn {
         let mut values = vec![in heap; 0u8; count]?;
         let found = unpack_into(values.as_mut_slice(), bytes, self.width());
         if found < count {
-            let kind = FaultKind::TooFewValues;
-            return Err(ReadError::Faulty(Fault { kind, place: found }, found));
+            return Err(ReadError::Faulty {
+                fault: FaultKind::TooFewValues.at(found),
+                good: found,
+            });
         }
         Ok(values)
     }
@@ -93,8 +97,10 @@ fn unpack_into(cells: &mut [u8], bytes: &[u8], num_bits: usize) -> usize
 
 /// Packs `patterns` into `out`, which they fill.
 fn pack_into(out: &mut [u8], patterns: &[u64], num_bits: usize)
-    requires { (num_bits ≤ 64) × ((((i : ℕ) → i < length patterns.now → slice_index patterns.now i < 2 ^ num_bits)) × (length out.old ≡ bytes_for (length patterns.now * num_bits))) }
-    ensures { out.new ≡ packed_at num_bits patterns.now }
+    requires width { num_bits ≤ 64 }
+    requires fit { AllFit num_bits patterns.now }
+    requires filled { length out.old ≡ bytes_for (length patterns.now * num_bits) }
+    ensures { out.new ≡ packed_bytes num_bits patterns.now }
 {
     let mut writer = BitWriter::new(out);
     writer.put_packed(patterns, num_bits);
@@ -102,8 +108,9 @@ fn pack_into(out: &mut [u8], patterns: &[u64], num_bits: usize)
 
 /// The bytes of `patterns`, packed at `num_bits` bits each.
 fn pack_patterns(heap: Global, patterns: &[u64], num_bits: usize) -> Result<Vec<u8>, AllocError>
-    requires { (num_bits ≤ 64) × (((i : ℕ) → i < length patterns.now → slice_index patterns.now i < 2 ^ num_bits)) }
-    ensures { IfOk result (λ v. v.items ≡ packed_at num_bits patterns.now) }
+    requires width { num_bits ≤ 64 }
+    requires fit { AllFit num_bits patterns.now }
+    ensures { IfOk result (λ v. v.items ≡ packed_bytes num_bits patterns.now) }
 {
     let Some(bits) = patterns.len().checked_mul(num_bits) else {
         return Err(AllocError);
@@ -122,10 +129,10 @@ fn difference(tick: i64, before: i64) -> i64
 
 /// Writes each tick as its difference to the tick before, the first as that to 0.
 fn put_ticks(writer: &mut BitWriter<'_>, readings: &[Reading])
-    requires { (writer.old.byte_offset ≡ 0) × ((writer.old.buffered_values ≡ 0) × ((writer.old.bit_offset ≡ 0) × (length readings.now * 10 ≤ length (buffer writer.old)))) }
-    ensures lent { writer.new.out.ghost_name ≡ writer.old.out.ghost_name }
+    requires none { HoldsNone writer.old }
+    requires room { HasRoom writer.old (length readings.now * 10) }
     ensures bytes { Wrote writer.old writer.new (ticks_of (pos 0) readings.now) }
-    ensures room { length (ticks_of (pos 0) readings.now) ≤ length (buffer writer.old) }
+    ensures room { HasRoom writer.old (length (ticks_of (pos 0) readings.now)) }
 {
     let mut before = 0;
     for reading in readings {
@@ -173,10 +180,10 @@ fn unpack_ticks(heap: Global, bytes: &[u8], count: usize) -> Result<Vec<i64>, Re
     let mut reader = BitReader::new(bytes);
     let mut ticks = Vec::new(heap);
     let mut tick = 0;
-    for index in 0..count {
+    for good in 0..count {
         match reader.get_zigzag_vlq_int() {
             Ok(difference) => tick = tick_after(tick, difference),
-            Err(fault) => return Err(ReadError::Faulty(fault, index)),
+            Err(fault) => return Err(ReadError::Faulty { fault, good }),
         }
         ticks.push(tick)?;
     }
@@ -190,18 +197,20 @@ fn join(
     values: &[u8],
     ticks: &[i64],
 ) -> Result<Vec<Reading>, AllocError>
-    requires { (length values.now ≡ length addresses.now) × ((length ticks.now ≡ length addresses.now) × (((i : ℕ) → i < length addresses.now → slice_index addresses.now i < 128))) }
+    requires values { length values.now ≡ length addresses.now }
+    requires ticks { length ticks.now ≡ length addresses.now }
+    requires on_loop { (i : ℕ) → i < length addresses.now → slice_index addresses.now i < 128 }
     ensures { IfOk result (λ v. vec_len v ≡ length addresses.now) }
 {
     let mut readings = Vec::new(heap);
-    for (i, address) in addresses.iter().enumerate() {
-        readings.push(Reading::new(*address, values[i], ticks[i]))?;
+    for ((address, value), tick) in addresses.iter().zip(values).zip(ticks) {
+        readings.push(Reading::new(*address, *value, *tick))?;
     }
     Ok(readings)
 }
 
 /// The bytes of the three columns, with the number of readings, which the bytes do not tell.
-#[derive(Drop)]
+#[derive(Debug, PartialEq, Eq, Drop)]
 pub struct Columns {
     count: usize,
     addresses: Vec<u8>,
@@ -256,12 +265,15 @@ fn write_column<W: fmt::Write>(f: &mut fmt::Formatter<W>, name: &str, bytes: &[u
 }
 
 /// Why the readings were not read back.
-#[derive(Drop)]
+// `From` is written by hand, since the contracts of `unpack` and `read_back` need what it gives.
+#[derive(Clone, Copy, Debug, PartialEq, Eq, Error)]
 pub enum ReadError {
     /// There was no memory for the readings.
+    #[error("no memory to read the columns back")]
     Memory,
     /// The bytes have a fault, after this many good readings.
-    Faulty(Fault, usize),
+    #[error("{fault} in the {layer} layer, after {good} good readings", layer = layer_name(.fault))]
+    Faulty { fault: Fault, good: usize },
 }
 
 impl From<AllocError> for ReadError {
@@ -280,33 +292,9 @@ impl<T: Drop> From<AllocFailed<T>> for ReadError {
     }
 }
 
-impl fmt::Display for ReadError {
-    fn fmt<W: fmt::Write>(&self, f: &mut fmt::Formatter<W>) -> fmt::Result {
-        match *self {
-            ReadError::Memory => f.write_str("no memory to read the columns back"),
-            ReadError::Faulty(fault, good) => {
-                let number = fault.number();
-                let place = fault.place;
-                let layer = layer_name(fault.layer());
-                write!(
-                    f,
-                    "fault {number} at {place} in the {layer} layer, after {good} good readings"
-                )
-            }
-        }
-    }
-}
-
-impl fmt::Debug for ReadError {
-    fn fmt<W: fmt::Write>(&self, f: &mut fmt::Formatter<W>) -> fmt::Result {
-        write!(f, "{self}")
-    }
-}
-
-impl Error for ReadError {}
-
-fn layer_name(layer: Layer) -> &'static str {
-    match layer {
+// The name of a layer in a sentence, where `Display` of `Layer` says "bits".
+fn layer_name(fault: &Fault) -> &'static str {
+    match fault.layer() {
         Layer::Bits => "bit",
         Layer::Column => "column",
         Layer::Count => "count",
@@ -315,13 +303,12 @@ fn layer_name(layer: Layer) -> &'static str {
 
 /// How many readings came back as they were packed.
 pub fn count_equal(packed: &[Reading], back: &[Reading]) -> usize
-    ensures { result ≤ length packed.now }
+    ensures value { result ≡ count_by (λ p. is_same p.0 p.1) (zip packed.now back.now) }
+    ensures bound { result ≤ length packed.now }
 {
-    let mut equal = 0;
-    for (before, after) in packed.iter().zip(back.iter()) {
-        if *before == *after {
-            equal += 1;
-        }
-    }
-    equal
+    packed
+        .iter()
+        .zip(back)
+        .filter(|(before, after)| before == after)
+        .count()
 }

@@ -1,8 +1,7 @@
 //! Packs the readings of a detector loop into columns of bytes, and reads them back.
 #![tactic(auto)]
 
-ghost use Rattle.std.specs.Prelude.{◌≡◌, IfSome, Some};
-ghost use Rattle.loopview.specs.Flags.{spelling};
+ghost use Rattle.loopview.specs.Flags.{Spells};
 
 mod columns;
 mod readings;
@@ -10,9 +9,10 @@ mod report;
 
 use columns::Columns;
 use report::{Extent, Table};
-use std::error::Error;
 use std::process::ExitCode;
-use std::{env, fmt, io};
+use std::str::FromStr;
+use std::{env, io};
+use thiserror::Error;
 
 const USAGE: &str = "\
 usage: loopview [--all] < READINGS
@@ -33,42 +33,38 @@ table of the readings as they were read back, and how many are equal.
 ";
 
 /// What the words of the command line ask for.
-#[derive(Clone, Copy)]
+#[derive(Clone, Copy, Debug, PartialEq, Eq)]
 enum Request {
     Help,
     Show(Extent),
 }
 
 /// A word of the command line that the program does not know.
-#[derive(Debug, Drop)]
+#[derive(Debug, PartialEq, Eq, Drop, Error)]
+#[error("unknown word {0:?}: see loopview --help")]
 struct UnknownWord(String);
 
-impl fmt::Display for UnknownWord {
-    fn fmt<W: fmt::Write>(&self, f: &mut fmt::Formatter<W>) -> fmt::Result {
-        let word = self.0.as_str();
-        write!(f, "unknown word {word:?}: see loopview --help")
-    }
-}
-
-impl Error for UnknownWord {}
-
 /// A word that the command line may hold.
-#[derive(Clone, Copy)]
+#[derive(Clone, Copy, Debug, PartialEq, Eq)]
 enum Flag {
     All,
     Help,
 }
 
-impl Flag {
-    /// The flag that `word` spells, if it spells one.
-    fn named(word: &str) -> Option<Flag>
-        ensures known { IfSome result (λ flag. word.now ≡ spelling flag) }
-        ensures all { (flag : Flag) → word.now ≡ spelling flag → result ≡ Some flag }
-    {
+/// A word that spells no flag.
+#[derive(Clone, Copy, Debug, PartialEq, Eq)]
+struct NoFlag;
+
+impl FromStr for Flag {
+    type Err = NoFlag;
+
+    ghost from_str_gives = { Spells };
+
+    fn from_str(word: &str) -> Result<Flag, NoFlag> {
         match word {
-            "--all" => Some(Flag::All),
-            "--help" => Some(Flag::Help),
-            _ => None,
+            "--all" => Ok(Flag::All),
+            "--help" => Ok(Flag::Help),
+            _ => Err(NoFlag),
         }
     }
 }
@@ -78,10 +74,10 @@ impl Request {
     fn from_words(words: env::Args) -> Result<Request, UnknownWord> {
         let mut extent = Extent::Ends;
         for word in words {
-            match Flag::named(word.as_str()) {
-                Some(Flag::Help) => return Ok(Request::Help),
-                Some(Flag::All) => extent = Extent::Every,
-                None => return Err(UnknownWord(word)),
+            match word.as_str().parse() {
+                Ok(Flag::Help) => return Ok(Request::Help),
+                Ok(Flag::All) => extent = Extent::Every,
+                Err(NoFlag) => return Err(UnknownWord(word)),
             }
         }
         Ok(Request::Show(extent))

@@ -5,13 +5,13 @@ ghost use Rattle.loopview.specs.declared.readings.ParseError.TheVariants.{Memory
 ghost use Rattle.loopview.specs.Fields.{field_name, least, greatest, Blames, Within};
 
 use std::alloc::{AllocError, AllocFailed, Global};
-use std::error::Error;
 use std::fmt;
 use std::fmt::InlineText;
 use std::num::IntErrorKind;
+use thiserror::Error;
 
 /// What one device of the loop answered when the panel polled it.
-#[derive(Clone, Copy, PartialEq, Eq)]
+#[derive(Clone, Copy, Debug, PartialEq, Eq)]
 pub struct Reading {
     address: u8,
     value: u8,
@@ -23,7 +23,9 @@ impl Reading {
     /// The reading of a device whose address the caller has shown to be on the loop.
     pub fn new(address: u8, value: u8, tick: i64) -> Reading
         requires { address < 128 }
-        ensures fields { (result.address ≡ address) × ((result.value ≡ value) × (result.tick ≡ tick)) }
+        ensures address { result.address ≡ address }
+        ensures value { result.value ≡ value }
+        ensures tick { result.tick ≡ tick }
     {
         Reading {
             address,
@@ -56,7 +58,7 @@ impl Reading {
 }
 
 /// A field of a line of readings.
-#[derive(Clone, Copy)]
+#[derive(Clone, Copy, Debug, PartialEq, Eq)]
 pub enum Field {
     Address,
     Value,
@@ -100,6 +102,7 @@ impl fmt::Display for Field {
 }
 
 /// The start of a field's text, for a message. It is a copy without allocation, so a refusal never fails for want of memory.
+// `InlineText` itself has neither `Display` nor `Debug`.
 #[derive(Clone, Copy)]
 pub struct Excerpt(InlineText<32>);
 
@@ -124,49 +127,40 @@ impl fmt::Debug for Excerpt {
 }
 
 /// Why a line is no reading.
-#[derive(Clone, Copy)]
+#[derive(Clone, Copy, Debug, Error)]
 pub enum Reason {
+    #[error("expected address,value,tick: too few fields")]
     TooFewFields,
+    #[error("expected address,value,tick: too many fields")]
     TooManyFields,
-    NoNumber(Field, Excerpt),
-    TooLow(Field, Excerpt),
-    TooHigh(Field, Excerpt),
+    #[error("{text:?} is no number for {field}")]
+    NoNumber { field: Field, text: Excerpt },
+    #[error("{field} {text} is below {lowest}", lowest = .field.lowest())]
+    TooLow { field: Field, text: Excerpt },
+    #[error("{field} {text} is above {highest}", highest = .field.highest())]
+    TooHigh { field: Field, text: Excerpt },
 }
 
-impl fmt::Display for Reason {
-    fn fmt<W: fmt::Write>(&self, f: &mut fmt::Formatter<W>) -> fmt::Result {
-        match *self {
-            Reason::TooFewFields => f.write_str("expected address,value,tick: too few fields"),
-            Reason::TooManyFields => f.write_str("expected address,value,tick: too many fields"),
-            Reason::NoNumber(field, text) => write!(f, "{text:?} is no number for {field}"),
-            Reason::TooLow(field, text) => {
-                let lowest = field.lowest();
-                write!(f, "{field} {text} is below {lowest}")
-            }
-            Reason::TooHigh(field, text) => {
-                let highest = field.highest();
-                write!(f, "{field} {text} is above {highest}")
-            }
-        }
-    }
-}
-
-/// The number that `text` spells, where it lies in the field's range.
-fn number(field: Field, text: &str) -> Result<i64, Reason>
+/// The number that `digits` spells, where it lies in the field's range.
+fn number(field: Field, digits: &str) -> Result<i64, Reason>
     ensures range { IfOk result (λ n. (least field ≤ℤ n) × (n ≤ℤ greatest field)) }
-    ensures value { IfOk result (λ n. n ≡ signed_digits_value 10 text.now) }
+    ensures value { IfOk result (λ n. n ≡ signed_digits_value 10 digits.now) }
     ensures blamed { IfErr result (Blames field) }
-    ensures accepts { IsNumeral 10 (without_leading_sign text.now) → least field ≤ℤ signed_digits_value 10 text.now → signed_digits_value 10 text.now ≤ℤ greatest field → is_ok result ≡ true }
+    ensures accepts { IsNumeral 10 (without_leading_sign digits.now)
+        → least field ≤ℤ signed_digits_value 10 digits.now
+        → signed_digits_value 10 digits.now ≤ℤ greatest field
+        → is_ok result ≡ true }
 {
-    match text.parse::<i64>() {
-        Ok(n) if n < field.lowest() => Err(Reason::TooLow(field, Excerpt::of(text))),
-        Ok(n) if n > field.highest() => Err(Reason::TooHigh(field, Excerpt::of(text))),
+    let text = Excerpt::of(digits);
+    match digits.parse::<i64>() {
+        Ok(n) if n < field.lowest() => Err(Reason::TooLow { field, text }),
+        Ok(n) if n > field.highest() => Err(Reason::TooHigh { field, text }),
         Ok(n) => Ok(n),
         Err(fault) => match fault.kind() {
-            IntErrorKind::PosOverflow => Err(Reason::TooHigh(field, Excerpt::of(text))),
-            IntErrorKind::NegOverflow => Err(Reason::TooLow(field, Excerpt::of(text))),
+            IntErrorKind::PosOverflow => Err(Reason::TooHigh { field, text }),
+            IntErrorKind::NegOverflow => Err(Reason::TooLow { field, text }),
             IntErrorKind::Empty | IntErrorKind::InvalidDigit | IntErrorKind::Zero => {
-                Err(Reason::NoNumber(field, Excerpt::of(text)))
+                Err(Reason::NoNumber { field, text })
             }
         },
     }
@@ -189,12 +183,15 @@ fn parse_line(line: &str) -> Result<Reading, Reason> {
 }
 
 /// Why there are no readings.
-#[derive(Drop)]
+// `From` is written by hand, since the contract of `parse` needs what it gives.
+#[derive(Clone, Copy, Debug, Error)]
 pub enum ParseError {
     /// There was no memory for the readings.
+    #[error("no memory for the readings")]
     Memory,
     /// The line of this number, counted from 1, is no reading.
-    BadLine(usize, Reason),
+    #[error("line {line}: {reason}")]
+    BadLine { line: usize, reason: Reason },
 }
 
 impl From<AllocError> for ParseError {
@@ -213,23 +210,6 @@ impl<T: Drop> From<AllocFailed<T>> for ParseError {
     }
 }
 
-impl fmt::Display for ParseError {
-    fn fmt<W: fmt::Write>(&self, f: &mut fmt::Formatter<W>) -> fmt::Result {
-        match *self {
-            ParseError::Memory => f.write_str("no memory for the readings"),
-            ParseError::BadLine(line, reason) => write!(f, "line {line}: {reason}"),
-        }
-    }
-}
-
-impl fmt::Debug for ParseError {
-    fn fmt<W: fmt::Write>(&self, f: &mut fmt::Formatter<W>) -> fmt::Result {
-        write!(f, "{self}")
-    }
-}
-
-impl Error for ParseError {}
-
 /// The readings of `text`, one to a line. Blank lines and comments, which begin with `#`, are skipped.
 pub fn parse(heap: Global, text: &str) -> Result<Vec<Reading>, ParseError>
     ensures few { IfOk result (λ v. vec_len v ≤ length text.now) }
@@ -242,8 +222,13 @@ pub fn parse(heap: Global, text: &str) -> Result<Vec<Reading>, ParseError>
             continue;
         }
         match parse_line(line) {
-            Ok(found) => readings.push(found)?,
-            Err(reason) => return Err(ParseError::BadLine(index + 1, reason)),
+            Ok(reading) => readings.push(reading)?,
+            Err(reason) => {
+                return Err(ParseError::BadLine {
+                    line: index + 1,
+                    reason,
+                });
+            }
         }
     }
     Ok(readings)

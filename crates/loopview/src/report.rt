@@ -15,7 +15,7 @@ const BACK_ROWS: usize = 4;
 const FRONT_BYTES: usize = 16;
 
 /// Which rows of a table are shown.
-#[derive(Clone, Copy)]
+#[derive(Clone, Copy, Debug, PartialEq, Eq)]
 pub enum Extent {
     /// The first and the last rows, with a note of how many are left out between them.
     Ends,
@@ -34,27 +34,8 @@ impl Extent {
     }
 }
 
-/// A line of the table.
-#[derive(Clone, Copy)]
-pub struct Row {
-    /// The place of the reading in the input, counted from 1.
-    number: usize,
-    reading: Reading,
-}
-
-impl fmt::Display for Row {
-    fn fmt<W: fmt::Write>(&self, f: &mut fmt::Formatter<W>) -> fmt::Result {
-        let number = self.number;
-        let address = self.reading.address();
-        let value = self.reading.value();
-        let tick = self.reading.tick();
-        // An i64 is written in at most 20 characters.
-        write!(f, "{number:>6}  {address:>7}  {value:>5}  {tick:>20}")
-    }
-}
-
 /// The readings as a table, with a header.
-#[derive(Clone, Copy)]
+#[derive(Clone, Copy, Debug, PartialEq, Eq)]
 pub struct Table<'a> {
     readings: &'a [Reading],
     extent: Extent,
@@ -62,7 +43,8 @@ pub struct Table<'a> {
 
 impl<'a> Table<'a> {
     pub fn new(readings: &'a [Reading], extent: Extent) -> Table<'a>
-        ensures { (result.readings.now ≡ readings.now) × (result.extent ≡ extent) }
+        ensures readings { result.readings.now ≡ readings.now }
+        ensures extent { result.extent ≡ extent }
     {
         Table { readings, extent }
     }
@@ -81,7 +63,7 @@ impl fmt::Display for Table<'_> {
             return write_rows(f, 1, readings);
         }
         let back = FRONT_ROWS + more;
-        write_rows(f, 1, &readings[0..FRONT_ROWS])?;
+        write_rows(f, 1, &readings[..FRONT_ROWS])?;
         writeln!(f, ".. {more} more ..")?;
         write_rows(f, back + 1, &readings[back..])
     }
@@ -96,17 +78,21 @@ fn write_rows<W: fmt::Write>(
     requires { first + length readings.now ≤ 2 ^ 64 }
 {
     for (index, reading) in readings.iter().enumerate() {
-        let row = Row {
-            number: first + index,
-            reading: *reading,
-        };
-        writeln!(f, "{row}")?;
+        // A tick is written in at most 20 characters.
+        writeln!(
+            f,
+            "{:>6}  {:>7}  {:>5}  {:>20}",
+            first + index,
+            reading.address(),
+            reading.value(),
+            reading.tick()
+        )?;
     }
     Ok(())
 }
 
 /// The first bytes of a column, in hexadecimal; two dots stand for the rest.
-#[derive(Clone, Copy)]
+#[derive(Clone, Copy, Debug, PartialEq, Eq)]
 pub struct HexFront<'a>(pub &'a [u8]);
 
 impl fmt::Display for HexFront<'_> {

@@ -2,41 +2,46 @@
 //! output. Blank lines and lines that begin with `#` are skipped. `tools/rle_cases.py` says what the lines mean.
 #![tactic(auto)]
 
-mod answers;
 mod reading;
 mod sweeping;
 mod words;
 mod writing;
 
-use answers::Answer;
 use std::alloc::Global;
 use std::io;
+use std::process::ExitCode;
+use words::LineError;
 
-fn main(rt: HostRuntime) -> io::Result<()> {
+/// Answers each line of the standard input.
+fn run(rt: &HostRuntime) -> anyhow::Result<()> {
     let heap = rt.alloc();
     let text = io::read_to_string(heap, rt.stdin())?;
     for line in text.lines() {
-        if !line.is_empty() && !line.starts_with('#') {
-            rt.println(answer(heap, line))?;
+        if line.is_empty() || line.starts_with('#') {
+            continue;
+        }
+        match answer(heap, line) {
+            Ok(answer) => println!(rt; "{answer}")?,
+            Err(error) => println!(rt; "? {error}")?,
         }
     }
     Ok(())
 }
 
-fn answer(heap: Global, line: &str) -> Answer {
-    let mut answer = Answer::new(heap);
-    if try_line(heap, &mut answer, line).is_none() {
-        answer.give_up();
-    }
-    answer
-}
-
-fn try_line(heap: Global, answer: &mut Answer, line: &str) -> Option<()> {
+fn answer(heap: Global, line: &str) -> Result<String, LineError> {
     let mut words = line.split_whitespace();
     match words.next() {
-        Some("write") => writing::try_words(heap, answer, words),
-        Some("read") => reading::try_words(heap, answer, words),
-        Some("sweep") => sweeping::try_words(answer, words),
-        _ => None,
+        Some("write") => writing::answer(heap, words),
+        Some("read") => reading::answer(heap, words),
+        Some("sweep") => sweeping::answer(heap, words),
+        _ => Err(LineError::NotUnderstood),
     }
+}
+
+fn main(rt: HostRuntime) -> ExitCode {
+    let Err(fault) = run(&rt) else {
+        return ExitCode::SUCCESS;
+    };
+    let _ = eprintln!(rt; "rlecases: {fault}");
+    ExitCode::FAILURE
 }

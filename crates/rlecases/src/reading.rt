@@ -1,148 +1,160 @@
 //! Reading a page: one call of the decoder for each word.
-use crate::answers::Answer;
-use crate::words::{Kind, bytes, number};
-use column::{Decoder, Element, HeadReading};
+use crate::words::{Kind, LineError, bytes, parsed};
+use column::{Declined, Decoder, Element, HeadReading};
 use rle_coding::RleDecoder;
-use std::alloc::Global;
-use std::str::SplitWhitespace;
+use std::alloc::{AllocError, Global};
+use std::fmt;
+use std::fmt::Write;
+use std::str::{FromStr, SplitWhitespace};
 
 /// The pattern of the cells before a batch.
 pub const MARK: u64 = 165;
 
 /// A call of a decoder.
-#[derive(Clone, Copy)]
+#[derive(Clone, Copy, Debug, PartialEq, Eq)]
 enum Call {
     Get,
     Batch(u16),
     Skip(usize),
 }
 
-impl Call {
-    fn parse(word: &str) -> Option<Call> {
+impl FromStr for Call {
+    type Err = LineError;
+
+    fn from_str(word: &str) -> Result<Call, LineError> {
         if word == "g" {
-            return Some(Call::Get);
-        }
-        let batch = word.strip_prefix('b');
-        if batch.is_some() {
-            return match number(batch) {
-                Some(count) => Some(Call::Batch(count)),
-                None => None,
-            };
-        }
-        match number(word.strip_prefix('s')) {
-            Some(count) => Some(Call::Skip(count)),
-            None => None,
-        }
-    }
-}
-
-/// Answers each call, or says why the page does not open.
-pub fn try_words(heap: Global, answer: &mut Answer, mut words: SplitWhitespace<'_>) -> Option<()> {
-    let Some(width) = number(words.next()) else {
-        return None;
-    };
-    let Some(kind) = Kind::parse(words.next()) else {
-        return None;
-    };
-    match bytes(heap, words.next()) {
-        Some(page) => read_page(heap, answer, page.as_slice(), width, kind, words),
-        None => None,
-    }
-}
-
-fn read_page(
-    heap: Global,
-    answer: &mut Answer,
-    page: &[u8],
-    width: u32,
-    kind: Kind,
-    words: SplitWhitespace<'_>,
-) -> Option<()> {
-    match RleDecoder::open(page, width, 0) {
-        Ok(decoder) => take_all(heap, answer, decoder, kind, words),
-        Err(declined) => {
-            answer.declined(declined);
-            Some(())
-        }
-    }
-}
-
-fn take_all(
-    heap: Global,
-    answer: &mut Answer,
-    mut decoder: RleDecoder<'_>,
-    mut kind: Kind,
-    words: SplitWhitespace<'_>,
-) -> Option<()> {
-    for word in words {
-        if let Some(next) = Kind::parse(Some(word)) {
-            kind = next;
-        } else if let Some(call) = Call::parse(word) {
-            answer.part();
-            take_as(heap, answer, &mut decoder, kind, call);
+            Ok(Call::Get)
+        } else if let Some(count) = word.strip_prefix('b') {
+            Ok(Call::Batch(parsed(Some(count))?))
         } else {
-            return None;
+            Ok(Call::Skip(parsed(word.strip_prefix('s'))?))
         }
     }
-    Some(())
 }
 
-fn take_as(
+/// What a call answered. Values stand here as their patterns.
+#[derive(Drop)]
+enum Taken {
+    Got(Result<Option<u64>, Declined>),
+    Filled {
+        count: Result<usize, Declined>,
+        cells: Vec<u64>,
+    },
+    Skipped(Result<usize, Declined>),
+}
+
+impl fmt::Display for Taken {
+    fn fmt<W: fmt::Write>(&self, f: &mut fmt::Formatter<W>) -> fmt::Result {
+        match self {
+            Taken::Got(Ok(Some(value))) => write!(f, "v {value}"),
+            Taken::Got(Ok(None)) => f.write_str("none"),
+            Taken::Skipped(Ok(count)) => write!(f, "s {count}"),
+            Taken::Got(Err(declined)) | Taken::Skipped(Err(declined)) => Said(*declined).fmt(f),
+            Taken::Filled { count, cells } => {
+                match count {
+                    Ok(count) => write!(f, "n {count}:")?,
+                    Err(declined) => write!(f, "{}:", Said(*declined))?,
+                }
+                for cell in cells {
+                    write!(f, " {cell}")?;
+                }
+                Ok(())
+            }
+        }
+    }
+}
+
+/// How a declined call is said.
+#[derive(Clone, Copy)]
+struct Said(Declined);
+
+impl fmt::Display for Said {
+    fn fmt<W: fmt::Write>(&self, f: &mut fmt::Formatter<W>) -> fmt::Result {
+        match self.0 {
+            Declined::Refused(refusal) => write!(f, "refused {}", refusal.number()),
+            Declined::Faulted { fault, count } => {
+                write!(f, "{fault} layer {} after {count}", fault.layer())
+            }
+        }
+    }
+}
+
+/// The answer to each call, or why the page does not open.
+pub fn answer(heap: Global, mut words: SplitWhitespace<'_>) -> Result<String, LineError> {
+    let width = parsed(words.next())?;
+    let kind = parsed(words.next())?;
+    let page = bytes(heap, words.next())?;
+    match RleDecoder::open(page.as_slice(), width, 0) {
+        Ok(decoder) => {
+            let reader = PageReader {
+                heap,
+                decoder,
+                kind,
+            };
+            reader.answers(words)
+        }
+        Err(declined) => Ok(format!(in heap; "{}", Said(declined))?),
+    }
+}
+
+/// A decoder, and the type of the elements that it reads.
+#[derive(Drop)]
+struct PageReader<'a> {
     heap: Global,
-    answer: &mut Answer,
-    decoder: &mut RleDecoder<'_>,
+    decoder: RleDecoder<'a>,
     kind: Kind,
-    call: Call,
-) {
-    match kind {
-        Kind::U8 => take::<u8>(heap, answer, decoder, call),
-        Kind::U16 => take::<u16>(heap, answer, decoder, call),
-        Kind::U32 => take::<u32>(heap, answer, decoder, call),
-        Kind::U64 => take::<u64>(heap, answer, decoder, call),
-        Kind::I32 => take::<i32>(heap, answer, decoder, call),
-        Kind::I64 => take::<i64>(heap, answer, decoder, call),
-        Kind::Head => take::<HeadReading>(heap, answer, decoder, call),
-    }
 }
 
-fn take<E: Element + Clone>(
-    heap: Global,
-    answer: &mut Answer,
-    decoder: &mut RleDecoder<'_>,
-    call: Call,
-) {
-    match call {
-        Call::Get => take_one::<E>(answer, decoder),
-        Call::Batch(count) => match vec![in heap; E::from_pattern(MARK); usize::from(count)] {
-            Ok(mut cells) => take_batch(answer, decoder, cells.as_mut_slice()),
-            Err(_) => answer.word("no memory"),
-        },
-        Call::Skip(count) => match decoder.skip(count) {
-            Ok(taken) => answer.count("s ", taken),
-            Err(declined) => answer.declined(declined),
-        },
-    }
-}
-
-fn take_one<E: Element>(answer: &mut Answer, decoder: &mut RleDecoder<'_>) {
-    match decoder.get::<E>() {
-        Ok(Some(value)) => {
-            answer.word("v ");
-            answer.number(value.to_pattern());
+impl PageReader<'_> {
+    // A word names the type from there on, or a call.
+    fn answers(mut self, words: SplitWhitespace<'_>) -> Result<String, LineError> {
+        let mut text = String::new(self.heap);
+        for word in words {
+            if let Ok(kind) = word.parse() {
+                self.kind = kind;
+                continue;
+            }
+            let answer = self.take(word.parse()?)?;
+            if !text.is_empty() {
+                text.push_str("; ")?;
+            }
+            write!(text, "{answer}")?;
         }
-        Ok(None) => answer.word("none"),
-        Err(declined) => answer.declined(declined),
+        Ok(text)
     }
-}
 
-fn take_batch<E: Element>(answer: &mut Answer, decoder: &mut RleDecoder<'_>, cells: &mut [E]) {
-    match decoder.get_batch(cells) {
-        Ok(taken) => answer.count("n ", taken),
-        Err(declined) => answer.declined(declined),
+    fn take(&mut self, call: Call) -> Result<Taken, AllocError> {
+        match self.kind {
+            Kind::U8 => self.take_as::<u8>(call),
+            Kind::U16 => self.take_as::<u16>(call),
+            Kind::U32 => self.take_as::<u32>(call),
+            Kind::U64 => self.take_as::<u64>(call),
+            Kind::I32 => self.take_as::<i32>(call),
+            Kind::I64 => self.take_as::<i64>(call),
+            Kind::Head => self.take_as::<HeadReading>(call),
+        }
     }
-    answer.word(":");
-    for cell in cells.iter() {
-        answer.word(" ");
-        answer.number((*cell).to_pattern());
+
+    fn take_as<E: Element + Clone>(&mut self, call: Call) -> Result<Taken, AllocError> {
+        match call {
+            Call::Get => Ok(Taken::Got(self.get::<E>())),
+            Call::Batch(count) => self.fill::<E>(usize::from(count)),
+            Call::Skip(count) => Ok(Taken::Skipped(self.decoder.skip(count))),
+        }
+    }
+
+    fn get<E: Element>(&mut self) -> Result<Option<u64>, Declined> {
+        let value = self.decoder.get::<E>()?;
+        Ok(value.map(|value| value.to_pattern()))
+    }
+
+    fn fill<E: Element + Clone>(&mut self, count: usize) -> Result<Taken, AllocError> {
+        let mut cells = vec![in self.heap; E::from_pattern(MARK); count]?;
+        let count = self.decoder.get_batch(cells.as_mut_slice());
+        let cells = cells
+            .iter()
+            .map(|cell| cell.to_pattern())
+            .collect(self.heap)?;
+        Ok(Taken::Filled { count, cells })
     }
 }

@@ -1,15 +1,16 @@
 //! Reading every page of up to two bytes.
 ghost use Rattle.std.specs.Prelude.{◌≡◌, ◌*◌, ◌%◌, ◌^◌, bit_xor};
 
-use crate::answers::Answer;
 use crate::reading::MARK;
-use crate::words::number;
+use crate::words::{LineError, parsed};
 use column::{Declined, Decoder};
 use rle_coding::RleDecoder;
+use std::alloc::Global;
+use std::fmt::Write;
 use std::str::SplitWhitespace;
 
 /// A 64-bit FNV-1a digest, over numbers in place of bytes.
-#[derive(Clone, Copy)]
+#[derive(Clone, Copy, Debug, PartialEq, Eq)]
 struct Digest {
     hash: u64,
 }
@@ -68,27 +69,16 @@ impl Digest {
 }
 
 /// The digest of the empty page, and for each first byte that of its pages of one and two bytes.
-pub fn try_words(answer: &mut Answer, mut words: SplitWhitespace<'_>) -> Option<()> {
-    match number(words.next()) {
-        Some(width) => {
-            sweep(answer, width);
-            Some(())
-        }
-        None => None,
-    }
-}
-
-fn sweep(answer: &mut Answer, width: u32) {
+pub fn answer(heap: Global, mut words: SplitWhitespace<'_>) -> Result<String, LineError> {
+    let width = parsed(words.next())?;
     let mut empty = Digest::new();
     empty.add_page(&[], width);
-    answer.word("- ");
-    answer.number(empty.hash);
+    let mut text = format!(in heap; "- {}", empty.hash)?;
     for first in 0..=255u8 {
-        answer.word("\n");
-        answer.byte(first);
-        answer.word(" ");
-        answer.number(digest_of(first, width));
+        let digest = digest_of(first, width);
+        write!(text, "\n{first:02X} {digest}")?;
     }
+    Ok(text)
 }
 
 // The digest of the pages that begin with a byte.

@@ -1,48 +1,54 @@
 //! The words of a line.
-use std::alloc::Global;
-use std::str::FromStr;
+use std::alloc::{AllocError, Global};
+use std::str::{FromStr, from_utf8};
+use thiserror::Error;
 
-/// The number that a word says.
-pub fn number<N: FromStr + Drop>(word: Option<&str>) -> Option<N>
+/// Why a line has no answer.
+#[derive(Clone, Copy, Debug, PartialEq, Eq, Error)]
+pub enum LineError {
+    #[error("not understood")]
+    NotUnderstood,
+    #[error("no memory")]
+    Memory(#[from(alloc)] AllocError),
+}
+
+/// What a word says, which has to be there.
+pub fn parsed<T: FromStr + Drop>(word: Option<&str>) -> Result<T, LineError>
 where
-    N::Err: Drop,
+    T::Err: Drop,
 {
-    match word {
-        Some(word) => word.parse().ok(),
-        None => None,
-    }
+    word.and_then(|word| word.parse().ok())
+        .ok_or(LineError::NotUnderstood)
 }
 
 /// The bytes that a word says, two hexadecimal digits each, or `-` for none.
-pub fn bytes(heap: Global, word: Option<&str>) -> Option<Vec<u8>> {
+pub fn bytes(heap: Global, word: Option<&str>) -> Result<Vec<u8>, LineError> {
     match word {
-        Some("-") => Some(Vec::new(heap)),
+        Some("-") => Ok(Vec::new(heap)),
         Some(digits) => digit_pairs(heap, digits),
-        None => None,
+        None => Err(LineError::NotUnderstood),
     }
 }
 
-fn digit_pairs(heap: Global, word: &str) -> Option<Vec<u8>> {
-    let mut bytes = Vec::new(heap);
-    if word.len() % 2 != 0 {
-        return None;
+fn digit_pairs(heap: Global, word: &str) -> Result<Vec<u8>, LineError> {
+    let pairs = word.as_bytes().chunks_exact(2);
+    if !pairs.remainder().is_empty() {
+        return Err(LineError::NotUnderstood);
     }
-    for i in 0..word.len() / 2 {
-        let Some(digits) = word.get(2 * i..2 * i + 2) else {
-            return None;
-        };
-        let Ok(byte) = u8::from_str_radix(digits, 16) else {
-            return None;
-        };
-        if bytes.push(byte).is_err() {
-            return None;
-        }
-    }
-    Some(bytes)
+    pairs.map(byte_of).try_collect(heap)
+}
+
+fn byte_of(digits: &[u8]) -> Result<u8, LineError> {
+    from_utf8(digits)
+        .ok()
+        .and_then(|digits| u8::from_str_radix(digits, 16).ok())
+        .ok_or(LineError::NotUnderstood)
 }
 
 /// A type of elements.
-#[derive(Clone, Copy)]
+// Reading and writing each match on it to pick the type: a trait with a generic method for both is longer, since it needs a
+// struct of its own for the arguments of each.
+#[derive(Clone, Copy, Debug, PartialEq, Eq)]
 pub enum Kind {
     U8,
     U16,
@@ -53,17 +59,19 @@ pub enum Kind {
     Head,
 }
 
-impl Kind {
-    pub fn parse(word: Option<&str>) -> Option<Kind> {
+impl FromStr for Kind {
+    type Err = LineError;
+
+    fn from_str(word: &str) -> Result<Kind, LineError> {
         match word {
-            Some("u8") => Some(Kind::U8),
-            Some("u16") => Some(Kind::U16),
-            Some("u32") => Some(Kind::U32),
-            Some("u64") => Some(Kind::U64),
-            Some("i32") => Some(Kind::I32),
-            Some("i64") => Some(Kind::I64),
-            Some("head") => Some(Kind::Head),
-            _ => None,
+            "u8" => Ok(Kind::U8),
+            "u16" => Ok(Kind::U16),
+            "u32" => Ok(Kind::U32),
+            "u64" => Ok(Kind::U64),
+            "i32" => Ok(Kind::I32),
+            "i64" => Ok(Kind::I64),
+            "head" => Ok(Kind::Head),
+            _ => Err(LineError::NotUnderstood),
         }
     }
 }

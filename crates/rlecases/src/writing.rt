@@ -1,13 +1,14 @@
 //! Writing a page: one call of the encoder for each word.
-use crate::answers::Answer;
-use crate::words::{Kind, number};
-use column::{Element, Encoder, HeadReading, Refusal, put_list};
+use crate::words::{Kind, LineError, parsed};
+use column::{Element, Encoder, HeadReading, PutList, Refusal, put_list};
 use rle_coding::RleEncoder;
 use std::alloc::Global;
+use std::fmt;
+use std::fmt::Write;
 use std::str::SplitWhitespace;
 
 /// What a word asks of the encoder. A value is said by its pattern.
-#[derive(Drop)]
+#[derive(Debug, PartialEq, Eq, Drop)]
 enum Put {
     One { kind: Kind, pattern: u64 },
     List(Vec<u64>),
@@ -15,105 +16,103 @@ enum Put {
 }
 
 impl Put {
-    fn parse(heap: Global, word: &str) -> Option<Put> {
+    // It makes lists, so it is no `FromStr`, which has no heap.
+    fn parse(heap: Global, word: &str) -> Result<Put, LineError> {
         if word.contains(',') {
-            Put::list(heap, word)
+            Ok(Put::List(list(heap, word)?))
         } else if let Some((value, times)) = word.split_once('*') {
-            Put::times(heap, number(Some(value)), number(Some(times)))
-        } else if let Some((kind, value)) = word.split_once(':') {
-            Put::one(Kind::parse(Some(kind)), number(Some(value)))
+            let value = parsed(Some(value))?;
+            let times: u16 = parsed(Some(times))?;
+            Ok(Put::List(vec![in heap; value; usize::from(times)]?))
+        } else if let Some((kind, pattern)) = word.split_once(':') {
+            Ok(Put::One {
+                kind: kind.parse()?,
+                pattern: parsed(Some(pattern))?,
+            })
         } else if let Some(count) = word.strip_prefix('x') {
-            Put::extend(number(Some(count)))
+            Ok(Put::Extend(parsed(Some(count))?))
         } else {
-            Put::one(Some(Kind::U64), number(Some(word)))
+            Ok(Put::One {
+                kind: Kind::U64,
+                pattern: parsed(Some(word))?,
+            })
         }
     }
 
-    fn one(kind: Option<Kind>, pattern: Option<u64>) -> Option<Put> {
-        match (kind, pattern) {
-            (Some(kind), Some(pattern)) => Some(Put::One { kind, pattern }),
-            _ => None,
+    fn ask(self, encoder: &mut RleEncoder<'_>) -> PutAnswer {
+        match self {
+            Put::One { kind, pattern } => PutAnswer::One(put_one(encoder, kind, pattern)),
+            Put::List(values) => PutAnswer::List(put_list(encoder, values.as_slice())),
+            Put::Extend(count) => PutAnswer::One(encoder.extend_run(count)),
         }
-    }
-
-    fn extend(count: Option<usize>) -> Option<Put> {
-        match count {
-            Some(count) => Some(Put::Extend(count)),
-            None => None,
-        }
-    }
-
-    fn times(heap: Global, value: Option<u64>, times: Option<u16>) -> Option<Put> {
-        let (Some(value), Some(times)) = (value, times) else {
-            return None;
-        };
-        match vec![in heap; value; usize::from(times)] {
-            Ok(values) => Some(Put::List(values)),
-            Err(_) => None,
-        }
-    }
-
-    fn list(heap: Global, word: &str) -> Option<Put> {
-        let mut values = Vec::new(heap);
-        for piece in word.split(',') {
-            if !piece.is_empty() {
-                let Some(value) = number(Some(piece)) else {
-                    return None;
-                };
-                if values.push(value).is_err() {
-                    return None;
-                }
-            }
-        }
-        Some(Put::List(values))
     }
 }
 
-/// Answers each call, and shows the page.
-pub fn try_words(heap: Global, answer: &mut Answer, mut words: SplitWhitespace<'_>) -> Option<()> {
-    let Some(width) = number(words.next()) else {
-        return None;
-    };
-    let Some(room): Option<u16> = number(words.next()) else {
-        return None;
-    };
-    match vec![in heap; 0xFF; usize::from(room)] {
-        Ok(mut buffer) => write_page(heap, answer, buffer.as_mut_slice(), width, words),
-        Err(_) => None,
+fn list(heap: Global, word: &str) -> Result<Vec<u64>, LineError> {
+    word.split(',')
+        .filter(|piece| !piece.is_empty())
+        .map(|piece| parsed(Some(piece)))
+        .try_collect(heap)
+}
+
+/// What the encoder answered.
+#[derive(Clone, Copy)]
+enum PutAnswer {
+    One(Result<(), Refusal>),
+    List(PutList),
+}
+
+impl fmt::Display for PutAnswer {
+    fn fmt<W: fmt::Write>(&self, f: &mut fmt::Formatter<W>) -> fmt::Result {
+        match self {
+            PutAnswer::One(Ok(())) => f.write_str("ok"),
+            PutAnswer::One(Err(refusal)) => write!(f, "{}", refusal.number()),
+            PutAnswer::List(PutList { count, refusal }) => {
+                write!(f, "{count}")?;
+                match refusal {
+                    Some(refusal) => write!(f, ",{}", refusal.number()),
+                    None => Ok(()),
+                }
+            }
+        }
     }
+}
+
+/// The answer to each call, and the page.
+pub fn answer(heap: Global, mut words: SplitWhitespace<'_>) -> Result<String, LineError> {
+    let width = parsed(words.next())?;
+    let room: u16 = parsed(words.next())?;
+    let mut buffer = vec![in heap; 0xFF; usize::from(room)]?;
+    write_page(heap, buffer.as_mut_slice(), width, words)
 }
 
 fn write_page(
     heap: Global,
-    answer: &mut Answer,
     out: &mut [u8],
     width: u32,
     words: SplitWhitespace<'_>,
-) -> Option<()> {
+) -> Result<String, LineError> {
+    let mut text = String::new(heap);
     match RleEncoder::check(out, width) {
         Ok(pass) => {
             let mut encoder = RleEncoder::new(pass, out);
             for word in words {
-                let Some(put) = Put::parse(heap, word) else {
-                    return None;
-                };
-                put_word(answer, &mut encoder, put);
+                let answer = Put::parse(heap, word)?.ask(&mut encoder);
+                write!(text, "{answer} ")?;
             }
             let length = encoder.finish();
-            show_page(answer, out, length);
+            write!(
+                text,
+                "{}",
+                Page {
+                    buffer: out,
+                    length
+                }
+            )?;
         }
-        Err(refusal) => answer.put(Err(refusal)),
+        Err(refusal) => write!(text, "{}", refusal.number())?,
     }
-    Some(())
-}
-
-fn put_word(answer: &mut Answer, encoder: &mut RleEncoder<'_>, put: Put) {
-    match put {
-        Put::One { kind, pattern } => answer.put(put_one(encoder, kind, pattern)),
-        Put::List(values) => answer.put_list(put_list(encoder, values.as_slice())),
-        Put::Extend(count) => answer.put(encoder.extend_run(count)),
-    }
-    answer.word(" ");
+    Ok(text)
 }
 
 fn put_one(encoder: &mut RleEncoder<'_>, kind: Kind, pattern: u64) -> Result<(), Refusal> {
@@ -128,17 +127,24 @@ fn put_one(encoder: &mut RleEncoder<'_>, kind: Kind, pattern: u64) -> Result<(),
     }
 }
 
+/// A finished page: the first bytes of its buffer.
+#[derive(Clone, Copy)]
+struct Page<'a> {
+    buffer: &'a [u8],
+    length: usize,
+}
+
 // The page, and whether all bytes behind it are 0.
-fn show_page(answer: &mut Answer, buffer: &[u8], length: usize) {
-    answer.count("-> ", length);
-    answer.word(if length == 0 { " -" } else { " " });
-    let mut clear = true;
-    for (i, byte) in buffer.iter().enumerate() {
-        if i < length {
-            answer.byte(*byte);
-        } else if *byte != 0 {
-            clear = false;
+impl fmt::Display for Page<'_> {
+    fn fmt<W: fmt::Write>(&self, f: &mut fmt::Formatter<W>) -> fmt::Result {
+        write!(f, "-> {} ", self.length)?;
+        if self.length == 0 {
+            f.write_str("-")?;
         }
+        for byte in self.buffer.iter().take(self.length) {
+            write!(f, "{byte:02X}")?;
+        }
+        let is_clear = self.buffer.iter().skip(self.length).all(|byte| *byte == 0);
+        f.write_str(if is_clear { " clear" } else { " dirty" })
     }
-    answer.word(if clear { " clear" } else { " dirty" });
 }

@@ -1,20 +1,10 @@
 use Rattle.std.proofs.Common.{◌≡◌, length, take, pos, ap, ◌∙◌, arith, rules}
 use Rattle.bit_writer.specs.Writer.{buffer}
 use Rattle.loopview.specs.Columns.{ticks_of}
-use Rattle.loopview.proofs.Ticks.{holds-none, wrote-front, wrote-long}
+use Rattle.loopview.proofs.Ticks.{wrote-front}
 use Rattle.loopview.proofs.columns.pack_ticks_into.Goals as goal
 
-pub bytes_written-requires : goal.bytes_written-requires
-bytes_written-requires c =
-    let w = c.new-writer.result in
-    let wrote = c.put_ticks.ensures.bytes in
-    let bytes = ticks_of (pos 0) c.args.readings.now in
-    let long : length (buffer c.put_ticks.new.writer) ≡ length (buffer w) =
-    wrote-long w c.put_ticks.new.writer bytes (omega (arith, c.new-writer.ensures.place, c.put_ticks.ensures.room)) wrote in (
-      holds-none c.put_ticks.new.writer wrote.held wrote.count,
-      omega (arith, wrote.place, wrote.count, c.new-writer.ensures.place, c.put_ticks.ensures.room),
-    )
-
+-- the bytes are the front of the buffer that was lent
 pub returns : goal.returns
 returns c =
     let w = c.new-writer.result in
@@ -23,5 +13,5 @@ returns c =
     let used : c.bytes_written.result ≡ length bytes = omega (arith, c.bytes_written.ensures, wrote.place, wrote.count, c.new-writer.ensures.place) in
     let front : take c.bytes_written.result (buffer c.put_ticks.new.writer) ≡ bytes =
     ap (λ k. take k (buffer c.put_ticks.new.writer)) used ∙ wrote-front w c.put_ticks.new.writer bytes c.new-writer.ensures.place wrote in
-    let lent = c.put_ticks.ensures.lent ∙ c.new-writer.ensures.lent in
+    let lent = wrote.lent ∙ c.new-writer.ensures.lent in
     search rules

@@ -1,6 +1,5 @@
 use Rattle.std.proofs.Common.{◌≡◌, vec_len}
-use Rattle.bit_reader.specs.Reader.{Inside}
 use Rattle.loopview.proofs.columns.unpack_ticks.Given as goal
 
-abbrev pub invariant-loop-index : goal.invariant-loop-index
-invariant-loop-index l = Inside l.reader × (vec_len l.ticks ≡ l.index)
+abbrev pub invariant-loop-good : goal.invariant-loop-good
+invariant-loop-good l = vec_len l.ticks ≡ l.good

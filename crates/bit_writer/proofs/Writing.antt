@@ -49,7 +49,7 @@ low_bytes k n h =
 
 -- ---- a word
 
--- a value of n bits above those that a writer holds; `high` is the value as far as it reaches into the word
+-- a value of n bits above those that a writer holds; `above` is the value as far as it reaches into the word
 module _ (w : BitWriter) (v n : ℕ) (fits : v < 2 ^ n) where
   abbrev held : ℕ
   held = w.buffered_values

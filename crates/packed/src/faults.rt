@@ -4,7 +4,7 @@ ghost use Rattle.std.specs.Prelude.{◌≡◌};
 
 use std::fmt;
 
-/// What is wrong with a page, by the number under which it is told.
+/// What is wrong with a page. The kinds are told by number, from 7 on in this order.
 #[derive(Clone, Copy, Debug, PartialEq, Eq)]
 pub enum FaultKind {
     /// a VLQ does not fit 64 bits

@@ -23,6 +23,7 @@ pub fn write_vlq(out: &mut [u8], at: usize, v: u64) -> usize
         *byte = 128 + (rest % 128) as u8;
         rest /= 128;
     }
+    // there is room for the last digit
     unreachable!()
 }
 

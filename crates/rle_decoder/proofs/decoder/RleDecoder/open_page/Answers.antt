@@ -2,9 +2,9 @@ use Rattle.std.proofs.Common.{leb, ◌≡◌, Ok, Some, sym, refl, ap, ◌∙◌
 use Rattle.std.proofs.lemmas.Bool.{cond-false, leb-true}
 use Rattle.std.proofs.lemmas.Result.{err_from_is_err_and}
 use Rattle.column.specs.Taking.{head_fault}
-use Rattle.rle.specs.Reading.{reads, run_at}
+use Rattle.rle.specs.Reading.{opens, reads, run_at, waiting_at}
 use Rattle.rle.specs.Found.{found}
-use Rattle.rle_decoder.proofs.Opened.{reads-opened, open-shut, fault-shuts}
+use Rattle.rle_decoder.proofs.Opened.{reads-opened, shut_allowed}
 use Rattle.rle_decoder.proofs.Runs.{run_in_page, run_fits}
 use Rattle.rle_decoder.proofs.decoder.RleDecoder.open_page.Goals as goal
 
@@ -20,7 +20,8 @@ returns-in_err-run c =
     let s = c.args.page.now in
     let small = leb-true w 64 (sym c.if-not-is_allowed.ensures) in
     let p = err_from_is_err_and c.from_residual.result c.from_residual.ensures.1 in
-    rw (p.1, p.2) (fault-shuts w s c.in_err-run.field-0.0 small (sym c.run_at.ensures ∙ ap found c.in_err-run.was))
+    rw (p.1, p.2) (shut_allowed w (reads w s) small
+    ∙ ap (λ st. head_fault (opens st (waiting_at w s 0))) (sym c.run_at.ensures ∙ ap found c.in_err-run.was))
 
 pub invariant_of-result : goal.invariant_of-result
 invariant_of-result c =
@@ -43,4 +44,4 @@ returns c =
     let run = c.in_ok-run.run' in
     let stand : found (Ok run) ≡ run_at w s 0 = sym (ap found c.in_ok-run.was) ∙ c.run_at.ensures in
     let read = reads-opened w s run stand in
-    (open-shut w s _ small read, read, refl, refl)
+    (shut_allowed w (reads w s) small ∙ ap head_fault read, read, refl, refl)

@@ -1,7 +1,6 @@
 //! The encoder as one of the column codings.
-ghost use Rattle.rle_encoder.specs.Encoder.{accepted as accepted_by, room as room_of};
+ghost use Rattle.rle_encoder.specs.Encoder.{accepted as accepted_by, room as room_of, width as width_of};
 
-use crate::finishing::Rest;
 use crate::meaning::RlePages;
 use crate::{RleEncoder, RlePass};
 use column::{Element, Encoder, Pass, Refusal};
@@ -15,7 +14,7 @@ impl Pass for RlePass {
 impl<'a> Encoder<'a> for RleEncoder<'a> {
     type Code = RlePages;
 
-    ghost width = { λ e. e.width };
+    ghost width = { λ e. width_of e };
 
     ghost room = { λ e. room_of e };
 
@@ -26,28 +25,8 @@ impl<'a> Encoder<'a> for RleEncoder<'a> {
     }
 
     fn finish(self) -> (usize, &'a mut [u8]) {
-        let RleEncoder {
-            out,
-            width,
-            length,
-            written,
-            phase,
-            current,
-            alike,
-            gathered,
-            collected,
-        } = self;
-        let rest = Rest {
-            width,
-            length,
-            written,
-            phase,
-            current,
-            alike,
-            gathered,
-            collected,
-        };
-        let end = rest.close(out);
+        let RleEncoder { out, progress } = self;
+        let end = progress.close(out);
         (end, out)
     }
 }

@@ -1,9 +1,10 @@
 //! Making an encoder.
 ghost use Rattle.std.specs.Prelude.{◌≡◌, ◌≤◌, [], length, nat_le};
 ghost use Rattle.column.specs.Putting.{Checking};
-ghost use Rattle.rle_encoder.specs.Encoder.{accepted, need};
+ghost use Rattle.rle_encoder.specs.Encoder.{accepted, need, width as width_of};
 
-use crate::{Phase, RleEncoder, RlePass};
+use crate::progress::Progress;
+use crate::{RleEncoder, RlePass};
 use column::Refusal;
 
 impl<'a> RleEncoder<'a> {
@@ -18,7 +19,7 @@ impl<'a> RleEncoder<'a> {
     pub fn new(pass: RlePass, out: &'a mut [u8]) -> RleEncoder<'a>
         requires { length out.old ≡ pass.room }
         ensures accepted { accepted result ≡ [] }
-        ensures width { result.width ≡ pass.width }
+        ensures width { width_of result ≡ pass.width }
         ensures buffer { result.out.now ≡ out.old }
         ensures lent { result.out.ghost_name ≡ out.entry.ghost_name }
     {
@@ -29,25 +30,17 @@ impl<'a> RleEncoder<'a> {
     fn empty(width: usize, out: &'a mut [u8]) -> RleEncoder<'a>
         requires { width ≤ 64 }
         ensures accepted { accepted result ≡ [] }
-        ensures width { result.width ≡ width }
+        ensures width { width_of result ≡ width }
         ensures buffer { result.out.now ≡ out.old }
         ensures lent { result.out.ghost_name ≡ out.entry.ghost_name }
     {
         RleEncoder {
             out,
-            width,
-            length: 0,
-            written: 0,
-            phase: Phase::Gathering,
-            current: 0,
-            alike: true,
-            gathered: [0; 8],
-            collected: 0,
+            progress: Progress::new(width),
         }
     }
 }
 
-// Whether values have so many bits at most.
 // The pass for a width and a buffer's length.
 fn pass_for(width: u32, room: usize) -> Result<RlePass, Refusal>
     ensures { Checking (λ (p : RlePass). p.width) (λ p. p.room) (nat_le width 64) (need width []) width room result }

@@ -1,32 +1,36 @@
-use Rattle.std.proofs.Common.{ap, arith, rules}
-use Rattle.rle_encoder.specs.Encoder.{repeats}
-use Rattle.rle_encoder.proofs.Added.{group-values, open-room, opened}
-use Rattle.rle_encoder.proofs.Keeping.{stands-accepted, stands-facts}
+use Rattle.std.proofs.Common.{[], ◌∷◌, ◌++◌, length, sym, ap, ◌∙◌, subst, arith}
+use Rattle.rle_encoder.specs.Encoder.{accepted, repeats}
+use Rattle.rle_encoder.proofs.Added.{length-group, open-room, opened}
+use Rattle.rle_encoder.proofs.Keeping.{Stands, stands-accepted, stands-kept}
 use Rattle.rle_encoder.proofs.RleEncoder.open_packed.Goals as goal
 
-pub group_bytes-bytes-requires : goal.group_bytes-bytes-requires
-group_bytes-bytes-requires c =
-    (c.args.self.now.narrow, group-values c.args.self.now c.args.value c.requires.1.1.1.0 c.requires.1.1.1.1 c.requires.1.0 (ap repeats c.requires.0))
-
-pub store-requires : goal.store-requires
-store-requires c =
-    (omega arith, (open-room c.args.self.now c.args.value c.requires.1.1.1.0 c.requires.1.1.1.1 c.requires.1.0 c.requires.1.1.0 c.requires.0, search rules))
+pub store-requires-clause-fits : goal.store-requires-clause-fits
+store-requires-clause-fits c =
+    let e = c.args.self.now in
+    omega (
+      arith,
+      open-room e c.args.value c.requires.takes (ap repeats c.requires.phase) c.requires.eighth c.requires.mixed c.requires.phase,
+      ap length c.group_with-bytes.ensures,
+      length-group e.progress.width (e.progress.gathered.items ++ c.args.value ∷ []),
+    )
 
 pub invariant_of-self : goal.invariant_of-self
 invariant_of-self c =
-    stands-facts
-    (opened c.args.self.now c.args.value c.requires.1.1.1.0 c.requires.1.1.1.1 c.requires.1.0 c.requires.1.1.0 c.group_bytes-bytes.result c.store.new.self c.requires.0
-    c.group_bytes-bytes.ensures c.store.ensures.stored c.store.ensures.accepted)
+    let e = c.args.self.now in
+    record {
+      kept = stands-kept
+          (subst (λ q. Stands q c.store.new.self.out.now (accepted e ++ c.args.value ∷ [])) (sym c.close_group.ensures)
+          (opened e c.args.value c.requires.takes (ap repeats c.requires.phase) c.requires.eighth c.requires.mixed c.store.new.self c.requires.phase c.group_with-bytes.ensures c.store.ensures));
+    }
 
 pub returns : goal.returns
 returns c =
+    let e = c.args.self.now in
     record {
-      added = record {
-        accepted_is = stands-accepted
-            (opened c.args.self.now c.args.value c.requires.1.1.1.0 c.requires.1.1.1.1 c.requires.1.0 c.requires.1.1.0 c.group_bytes-bytes.result c.store.new.self c.requires.0
-            c.group_bytes-bytes.ensures c.store.ensures.stored c.store.ensures.accepted);
-        width_is = c.store.ensures.stored.width_is;
-        room_is = c.store.ensures.stored.room_is;
-      };
-      lent = c.store.ensures.lent;
+      accepted_is = stands-accepted
+          (subst (λ q. Stands q c.store.new.self.out.now (accepted e ++ c.args.value ∷ [])) (sym c.close_group.ensures)
+          (opened e c.args.value c.requires.takes (ap repeats c.requires.phase) c.requires.eighth c.requires.mixed c.store.new.self c.requires.phase c.group_with-bytes.ensures c.store.ensures));
+      width_is = ap (λ p. p.width) c.close_group.ensures ∙ ap (λ p. p.width) c.store.ensures.progress_is;
+      room_is = c.store.ensures.room_is;
+      lent_is = c.store.ensures.lent_is;
     }

@@ -1,16 +1,11 @@
 -- A run leads on to a later place, so that the number of runs does not matter once it is large enough.
-use Rattle.std.proofs.Common.{◌≡◌, ℕ, zero, suc, ◌+◌, ◌*◌, ◌/◌, ◌%◌, ◌<◌, ◌≤◌, min, cond, eqb, ltb, leb, List, length, drop, Ok, Err, Result, sym, refl, ap, arith}
+use Rattle.std.proofs.Common.{◌≡◌, ℕ, zero, suc, ◌+◌, ◌<◌, ◌≤◌, List, length, drop, sym, refl, ap, arith}
 use Rattle.std.proofs.lemmas.List.{drop_all}
-use Rattle.std.proofs.lemmas.Bool.{cond_both}
-use Rattle.packed.specs.declared.faults.Fault.{Fault}
-use Rattle.packed.specs.declared.faults.FaultKind.TheVariants.{RunTooLong, RepeatedValueCut}
-use Rattle.packed.specs.Bytes.{bits_at}
 use Rattle.packed.specs.Vlq.{continuing, read_vlq}
 use Rattle.packed.proofs.VlqLaws.{read-cut, read-within, read_some}
-use Rattle.bit_reader.specs.Reader.{readable}
 use Rattle.column.specs.Pages.{Waiting, end, nothing, before}
-use Rattle.rle.specs.Runs.{value_bytes}
-use Rattle.rle.specs.Reading.{Stand, ended, stopped, repeats, packs, stop, ends_page, headed, repeated_at, packed_at, run_at, follow, values_from, waiting_at}
+use Rattle.rle.proofs.Headers.{headed-cases}
+use Rattle.rle.specs.Reading.{Stand, ended, stopped, repeats, packs, headed, run_at, follow, values_from, waiting_at}
 
 -- the next run, if there is one, begins later
 abbrev Later : ℕ → Stand → Type 0
@@ -19,24 +14,11 @@ Later at (stopped f) = Unit {0}
 Later at (repeats n v next) = at < next
 Later at (packs n start next) = at < next
 
-headed-later : (w : ℕ) (s : List ℕ) (at : ℕ) (r : Result (ℕ × ℕ) Fault) → read_vlq s at ≡ r → Later at (headed w s at r)
-unfolding headed repeated_at packed_at
-headed-later w s at (Err f) e = cond_both (ends_page f.kind) ended (stopped f) (Later at) (λ y. tt) (λ n. tt)
-headed-later w s at (Ok r) e =
-    let inside : at + r.1 ≤ length s = read-within s at r.0 r.1 e in
-    let some : 0 < r.1 = read_some s at r.0 r.1 e in
-    let start = at + r.1 in
-    let k = r.0 / 2 in
-    cond_both (eqb r.0 0) ended (cond (eqb (r.0 % 2) 0) (repeated_at w s at start k) (packed_at w s at start k)) (Later at) (λ z. tt)
-    (λ nz. cond_both (eqb (r.0 % 2) 0) (repeated_at w s at start k) (packed_at w s at start k) (Later at)
-    (λ even.
-    cond_both (ltb 2147483647 k) (stop RunTooLong at) (cond (leb (start + value_bytes w) (length s)) (repeats k (bits_at s (8 * start) (8 * value_bytes w)) (start + value_bytes w)) (stop RepeatedValueCut start)) (Later at) (λ y. tt)
-    (λ n. cond_both (leb (start + value_bytes w) (length s)) (repeats k (bits_at s (8 * start) (8 * value_bytes w)) (start + value_bytes w)) (stop RepeatedValueCut start) (Later at) (λ y. omega arith) (λ y. tt)))
-    (λ odd.
-    cond_both (ltb 2147483647 (8 * k)) (stop RunTooLong at) (packs (readable s (8 * start) w (8 * k)) start (min (start + k * w) (length s))) (Later at) (λ y. tt) (λ n. omega arith)))
-
 pub run-later : (w : ℕ) (s : List ℕ) (at : ℕ) → Later at (run_at w s at)
-run-later w s at = headed-later w s at (read_vlq s at) refl
+run-later w s at =
+    headed-cases w s at (Later at) tt (λ f. tt) (read_vlq s at)
+    (λ h k n read there. let some = read_some s at h k read in omega arith)
+    (λ h k g read. let some = read_some s at h k read in let inside = read-within s at h k read in omega arith)
 
 follow-same : (w : ℕ) (s : List ℕ) (at : ℕ) (j k : ℕ → Waiting) (st : Stand) → Later at st → ((next : ℕ) → at < next → j next ≡ k next) → follow w s j st ≡ follow w s k st
 follow-same w s at j k ended later same = refl

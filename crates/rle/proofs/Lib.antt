@@ -1,9 +1,11 @@
 pub mod Headers
 pub mod Later
 pub mod Leniencies
+pub mod PageLaws
 pub mod ReadBack
 pub mod Small
 pub mod Splitting
 pub mod Standing
 pub mod Stored
+pub mod VlqLength
 pub mod Writing

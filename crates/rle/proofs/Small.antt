@@ -1,16 +1,13 @@
 -- Every value that is read is below 2 ^ 64.
-use Rattle.std.proofs.Common.{ℕ, zero, suc, ◌+◌, ◌*◌, ◌/◌, ◌%◌, ◌^◌, ◌<◌, ◌≤◌, min, cond, eqb, ltb, leb, List, length, replicate, Ok, Err, Result, arith, pow_mono}
+use Rattle.std.proofs.Common.{ℕ, zero, suc, ◌+◌, ◌*◌, ◌^◌, ◌<◌, ◌≤◌, List, replicate, arith, pow_mono}
 use Rattle.std.specs.List.{AllByRecursion}
 use Rattle.std.proofs.ByRecursion.{All-append}
-use Rattle.std.proofs.lemmas.Bool.{cond_both}
-use Rattle.packed.specs.declared.faults.Fault.{Fault}
-use Rattle.packed.specs.declared.faults.FaultKind.TheVariants.{RunTooLong, RepeatedValueCut}
-use Rattle.packed.specs.Bytes.{bits_at, cells_at}
+use Rattle.packed.specs.Bytes.{cells_at}
 use Rattle.packed.specs.Vlq.{read_vlq}
 use Rattle.packed.proofs.Bytes.{bits_at-below}
-use Rattle.bit_reader.specs.Reader.{readable}
+use Rattle.rle.proofs.Headers.{headed-cases}
 use Rattle.rle.specs.Runs.{value_bytes}
-use Rattle.rle.specs.Reading.{Stand, ended, stopped, repeats, packs, stop, ends_page, headed, repeated_at, packed_at, run_at, follow, values_from}
+use Rattle.rle.specs.Reading.{Stand, ended, stopped, repeats, packs, run_at, follow, values_from}
 
 abbrev pub Small : List ℕ → Type 0
 Small vs = AllByRecursion (λ p. p < 2 ^ 64) vs
@@ -33,22 +30,13 @@ SmallRun (stopped f) = Unit {0}
 SmallRun (repeats n v next) = v < 2 ^ 64
 SmallRun (packs n start next) = Unit {0}
 
-small-headed : (w : ℕ) (s : List ℕ) (at : ℕ) (r : Result (ℕ × ℕ) Fault) → w ≤ 64 → SmallRun (headed w s at r)
-unfolding headed repeated_at packed_at
-small-headed w s at (Err f) narrow = cond_both (ends_page f.kind) ended (stopped f) SmallRun (λ y. tt) (λ n. tt)
-small-headed w s at (Ok r) narrow =
-    let start = at + r.1 in
-    let k = r.0 / 2 in
-    let value = bits_at s (8 * start) (8 * value_bytes w) in
+small-run : (w : ℕ) (s : List ℕ) (at : ℕ) → w ≤ 64 → SmallRun (run_at w s at)
+small-run w s at narrow =
     let few : 8 * value_bytes w ≤ 64 = omega arith in
     let most : 2 ^ (8 * value_bytes w) ≤ 2 ^ 64 = pow_mono few in
-    cond_both (eqb r.0 0) ended (cond (eqb (r.0 % 2) 0) (repeated_at w s at start k) (packed_at w s at start k)) SmallRun (λ z. tt)
-    (λ nz. cond_both (eqb (r.0 % 2) 0) (repeated_at w s at start k) (packed_at w s at start k) SmallRun
-    (λ even.
-    cond_both (ltb 2147483647 k) (stop RunTooLong at) (cond (leb (start + value_bytes w) (length s)) (repeats k value (start + value_bytes w)) (stop RepeatedValueCut start)) SmallRun (λ y. tt)
-    (λ n. cond_both (leb (start + value_bytes w) (length s)) (repeats k value (start + value_bytes w)) (stop RepeatedValueCut start) SmallRun (λ y. omega (arith, bits_at-below s (8 * start) (8 * value_bytes w))) (λ y. tt)))
-    (λ odd.
-    cond_both (ltb 2147483647 (8 * k)) (stop RunTooLong at) (packs (readable s (8 * start) w (8 * k)) start (min (start + k * w) (length s))) SmallRun (λ y. tt) (λ n. tt)))
+    headed-cases w s at SmallRun tt (λ f. tt) (read_vlq s at)
+    (λ h k n read there. omega (arith, bits_at-below s (8 * (at + k)) (8 * value_bytes w)))
+    (λ h k g read. tt)
 
 small-follow : (w f : ℕ) (s : List ℕ) (st : Stand) → w ≤ 64 → SmallRun st → ((next : ℕ) → Small (values_from f w s next).values) → Small (follow w s (λ next. values_from f w s next) st).values
 small-follow w f s ended narrow run rest = tt
@@ -61,4 +49,4 @@ pub small-values : (f w : ℕ) (s : List ℕ) (at : ℕ) → w ≤ 64 → Small 
 unfolding values_from
 small-values zero w s at narrow = tt
 small-values (suc f) w s at narrow =
-    small-follow w f s (run_at w s at) narrow (small-headed w s at (read_vlq s at) narrow) (λ next. small-values f w s next narrow)
+    small-follow w f s (run_at w s at) narrow (small-run w s at narrow) (λ next. small-values f w s next narrow)

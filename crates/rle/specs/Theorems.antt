@@ -1,17 +1,11 @@
 -- What is proved of the pages of the RLE/bit-packed hybrid.
-use Rattle.std.specs.Prelude.{◌≡◌, ℕ, ◌+◌, ◌*◌, ◌^◌, ◌<◌, ◌≤◌, List, ◌++◌, length, replicate}
-use Rattle.std.specs.List.{AllByRecursion}
+use Rattle.std.specs.Prelude.{◌≡◌, ℕ, ◌+◌, ◌*◌, ◌≤◌, List, ◌++◌, length, replicate}
 use Rattle.column.specs.Pages.{end, opened}
+use Rattle.column.specs.Putting.{Column}
 use Rattle.rle.specs.Hybrid.{Bytes, Hybrid}
 use Rattle.rle.specs.Lenient.{Lenient}
 use Rattle.rle.specs.Reading.{reads, waiting_at}
 use Rattle.rle.specs.Runs.{page}
-
--- A list that a page of width w can hold.
-pub record Column (w : ℕ) (l : List ℕ) : Type 0 where
-  pub width : w ≤ 64
-  pub below : AllByRecursion (λ v. v < 2 ^ w) l
-  pub count : length l ≤ 2147483647
 
 -- A written page stands, in the public format, for its list and at most seven zeros behind it.
 abbrev pub WrittenStands : Type 0
@@ -31,4 +25,4 @@ ReadStands = (w : ℕ) (s vs : List ℕ) → Bytes s → waiting_at w s 0 ≡ re
 
 -- A page takes at most nine bytes for each value, and 63.
 abbrev pub WrittenIsShort : Type 0
-WrittenIsShort = (w : ℕ) (l : List ℕ) → Column w l → length (page w l) ≤ 63 + 9 * length l
+WrittenIsShort = (w : ℕ) (l : List ℕ) → w ≤ 64 → Column w l → length (page w l) ≤ 63 + 9 * length l

@@ -1,21 +1,21 @@
-//! What stands at a place of a page: the end, or a run and the place of the next.
-ghost use Rattle.std.specs.Prelude.{◌≡◌, ℕ, ◌+◌, ◌*◌, ◌≤◌, length, Some, Ok};
+//! What stands at a place of a page: a run and the place of the next, or none where the page ends.
+ghost use Rattle.std.specs.Prelude.{◌≡◌, ℕ, ◌+◌, ◌≤◌, length, Some, Ok};
+ghost use Rattle.packed.specs.Vlq.{read_vlq};
 ghost use Rattle.rle.specs.Found.{found, header_of};
 ghost use Rattle.rle.specs.Reading.{headed_at, packed_at, repeated_at, run_at};
-ghost use Rattle.packed.specs.Vlq.{read_vlq};
 
+use crate::pieces::value_bytes;
 use packed::{Fault, FaultKind, bits_at, read_vlq};
 
 /// The most values of a run.
 const MAX_COUNT: u64 = 2147483647;
 
 /// The most groups of eight of a packed run.
-const MAX_GROUPS: u64 = 268435455;
+const MAX_GROUPS: u64 = MAX_COUNT / 8;
 
-/// What stands at a place.
-#[derive(Clone, Copy)]
+/// A run, and the place of what stands behind it.
+#[derive(Clone, Copy, Debug, PartialEq, Eq)]
 pub enum Found {
-    End,
     Repeated {
         count: usize,
         value: u64,
@@ -28,18 +28,35 @@ pub enum Found {
     },
 }
 
-/// Reads the run that begins at `at`.
-pub fn run_at(page: &[u8], width: usize, at: usize) -> Result<Found, Fault>
+// A run of a page whose header takes the bytes from `at` to `start`.
+#[derive(Drop)]
+struct Place<'a> {
+    page: &'a [u8],
+    width: usize,
+    at: usize,
+    start: usize,
+    ghost narrow: { width ≤ 64 },
+    ghost inside: { start ≤ length page.now },
+}
+
+/// Reads the run that begins at `at`; none where the page ends there.
+pub fn run_at(page: &[u8], width: usize, at: usize) -> Result<Option<Found>, Fault>
     requires { width ≤ 64 }
     ensures { found result ≡ run_at width page.now at }
 {
     if at > page.len() {
-        return Ok(Found::End);
+        return Ok(None);
     }
     let Some((header, taken)) = header_at(page, at)? else {
-        return Ok(Found::End);
+        return Ok(None);
     };
-    headed_run(page, width, at, at + taken, header)
+    let place = Place {
+        page,
+        width,
+        at,
+        start: at + taken,
+    };
+    place.run(header)
 }
 
 // The header that begins at `at`, and how many bytes it takes: none where the data ends before or inside it.
@@ -49,94 +66,63 @@ fn header_at(page: &[u8], at: usize) -> Result<Option<(u64, usize)>, Fault>
     ensures within { (n taken : ℕ) → result ≡ Ok (Some (n, taken)) → at + taken ≤ length page.now }
 {
     match read_vlq(page, at) {
-        Ok((header, taken)) => Ok(Some((header, taken))),
-        Err(fault) => match fault.kind {
-            FaultKind::DataEnds => Ok(None),
-            _ => Err(fault),
-        },
+        Ok(header) => Ok(Some(header)),
+        Err(fault) if fault.kind == FaultKind::DataEnds => Ok(None),
+        Err(fault) => Err(fault),
     }
 }
 
-// The run behind a header that takes the bytes from `at` to `start`.
-fn headed_run(
-    page: &[u8],
-    width: usize,
-    at: usize,
-    start: usize,
-    header: u64,
-) -> Result<Found, Fault>
-    requires { (width ≤ 64) × (start ≤ length page.now) }
-    ensures { found result ≡ headed_at width page.now at start header }
-{
-    if header == 0 {
-        Ok(Found::End)
-    } else if header % 2 == 0 {
-        repeated_run(page, width, at, start, header / 2)
-    } else {
-        packed_run(page, width, at, start, header / 2)
+impl<'a> Place<'a> {
+    fn run(&self, header: u64) -> Result<Option<Found>, Fault>
+        ensures { found result ≡ headed_at self.now.width self.now.page.now self.now.at self.now.start header }
+    {
+        if header == 0 {
+            Ok(None)
+        } else if header % 2 == 0 {
+            self.repeated(header / 2)
+        } else {
+            self.packed(header / 2)
+        }
     }
-}
 
-fn repeated_run(
-    page: &[u8],
-    width: usize,
-    at: usize,
-    start: usize,
-    count: u64,
-) -> Result<Found, Fault>
-    requires { (width ≤ 64) × (start ≤ length page.now) }
-    ensures { found result ≡ repeated_at width page.now at start count }
-{
-    if count > MAX_COUNT {
-        return Err(Fault {
-            kind: FaultKind::RunTooLong,
-            place: at,
-        });
+    fn repeated(&self, count: u64) -> Result<Option<Found>, Fault>
+        ensures { found result ≡ repeated_at self.now.width self.now.page.now self.now.at self.now.start count }
+    {
+        if count > MAX_COUNT {
+            return Err(FaultKind::RunTooLong.at(self.at));
+        }
+        let bytes = value_bytes(self.width);
+        if self.page.len() - self.start < bytes {
+            return Err(FaultKind::RepeatedValueCut.at(self.start));
+        }
+        let value = bits_at(self.page, self.start, 0, 8 * bytes);
+        Ok(Some(Found::Repeated {
+            count: count as usize,
+            value,
+            next: self.start + bytes,
+        }))
     }
-    let bytes = (width + 7) / 8;
-    if page.len() - start < bytes {
-        return Err(Fault {
-            kind: FaultKind::RepeatedValueCut,
-            place: start,
-        });
-    }
-    let value = bits_at(page, start, 0, 8 * bytes);
-    Ok(Found::Repeated {
-        count: count as usize,
-        value,
-        next: start + bytes,
-    })
-}
 
-// A packed run that is cut has its complete values, and nothing follows it.
-fn packed_run(
-    page: &[u8],
-    width: usize,
-    at: usize,
-    start: usize,
-    groups: u64,
-) -> Result<Found, Fault>
-    requires { (width ≤ 64) × (start ≤ length page.now) }
-    ensures { found result ≡ packed_at width page.now at start groups }
-{
-    if groups > MAX_GROUPS {
-        return Err(Fault {
-            kind: FaultKind::RunTooLong,
-            place: at,
-        });
+    // A packed run that is cut has its complete values, and nothing follows it.
+    fn packed(&self, groups: u64) -> Result<Option<Found>, Fault>
+        ensures { found result ≡ packed_at self.now.width self.now.page.now self.now.at self.now.start groups }
+    {
+        if groups > MAX_GROUPS {
+            return Err(FaultKind::RunTooLong.at(self.at));
+        }
+        let groups = groups as usize;
+        let left = self.page.len() - self.start;
+        if left >= groups * self.width {
+            return Ok(Some(Found::Packed {
+                count: 8 * groups,
+                start: self.start,
+                next: self.start + groups * self.width,
+            }));
+        }
+        Ok(Some(Found::Packed {
+            count: 8 * left / self.width,
+            start: self.start,
+            next: self.page.len(),
+        }))
     }
-    let groups = groups as usize;
-    let left = page.len() - start;
-    if left >= groups * width {
-        return Ok(Found::Packed {
-            count: 8 * groups,
-            start,
-            next: start + groups * width,
-        });
-    }
-    Ok(Found::Packed {
-        count: 8 * left / width,
-        start,
-        next: page.len(),
-    })
 }

@@ -58,8 +58,8 @@ pub group-whole : (g : List ℕ) (x : ℕ) → length g ≡ 7 → set (padded g)
 group-whole g x seven = ap (λ n. set (g ++ replicate (8 - n) 0) 7 x) seven ∙ set_at g 0 [] x 7 seven
 
 -- the place of each value
-pub each-below : (w : ℕ) (l : List ℕ) → length l ≡ 8 → AllByRecursion (λ v. v < 2 ^ w) l → (i : ℕ) → i < 8 → get_or l i 0 < 2 ^ w
-each-below w l eight all i inside = All-get_or (λ v. v < 2 ^ w) l i 0 (omega arith) all
+pub each-below : (w : ℕ) (l : List ℕ) → AllByRecursion (λ v. v < 2 ^ w) l → (i : ℕ) → i < length l → get_or l i 0 < 2 ^ w
+each-below w l all i inside = All-get_or (λ v. v < 2 ^ w) l i 0 inside all
 
 pub length-group : (w : ℕ) (l : List ℕ) → length (group_bytes w l) ≡ w
 length-group w l = length_digits 256 w (number (2 ^ w) l)
@@ -105,34 +105,37 @@ module _ (e : RleEncoder) where
     pub close-room : (n : ℕ) → e.progress.phase ≡ Repeating n → equals e.progress.same x ≡ false → e.progress.written + length (run_bytes e.progress n) ≤ length e.out.now
     close-room n is other = omega (arith, takes.room_for.fits, stands-other (own e) n x is other, length-repeated (width e) n (or_zero e.progress.same))
 
-    pub closed : (n taken : ℕ) {bytes : List ℕ} (f : RleEncoder) → e.progress.phase ≡ Repeating n → equals e.progress.same x ≡ false
-        → bytes ≡ run_bytes e.progress n → taken ≡ length (run_bytes e.progress n) → Stored e f e.progress.written bytes
-        → Stands (collected (record f.progress { written = e.progress.written + taken; phase = Gathering }) x true) f.out.now (accepted e ++ x ∷ [])
-    closed n taken {bytes} f is other run long stored =
+    pub closed : (n : ℕ) {end : ℕ} {bytes : List ℕ} (f : RleEncoder) {q : Progress} → e.progress.phase ≡ Repeating n → equals e.progress.same x ≡ false
+        → bytes ≡ run_bytes e.progress n → end ≡ e.progress.written + length bytes → Stored e f e.progress.written bytes
+        → q ≡ collected (record f.progress { written = end; phase = Gathering }) x true → Stands q f.out.now (accepted e ++ x ∷ [])
+    closed n {end} {bytes} f is other run long stored now =
         let st = own e in
-        let front : take (e.progress.written + taken) f.out.now ≡ front_of e.progress.phase e.progress.written e.out.now ++ run_bytes e.progress n =
-        front-more e.out.now f.out.now e.progress.written taken bytes st.inside stored.buffer_is (ap length run ∙ sym long)
+        let place = e.progress.written in
+        let front : take end f.out.now ≡ front_of e.progress.phase place e.out.now ++ run_bytes e.progress n =
+        ap (λ k. take k f.out.now) long
+        ∙ front-more e.out.now f.out.now place (length bytes) bytes st.inside stored.buffer_is refl
         ∙ ap₂ ◌++◌ (sym (front-run e.progress.written e.out.now is)) run in
         let one : length (e.progress.gathered.items ++ x ∷ []) ≡ 1 = ap (λ l. length (l ++ x ∷ [])) (only-run n is) in
-        subst (λ p. Stands (collected (record p { written = e.progress.written + taken; phase = Gathering }) x true) f.out.now (accepted e ++ x ∷ [])) (sym stored.progress_is)
-        (next (collected (record e.progress { written = e.progress.written + taken; phase = Gathering }) x true) f.out.now refl refl
-        (omega (arith, close-room n is other, stored.room_is)) (omega (arith, one)) stored.room_is
+        subst (λ p. Stands p f.out.now (accepted e ++ x ∷ [])) (sym (now ∙ ap (λ p. collected (record p { written = end; phase = Gathering }) x true) stored.progress_is))
+        (next (collected (record e.progress { written = end; phase = Gathering }) x true) f.out.now refl refl
+        (omega (arith, close-room n is other, ap length run, stored.room_is)) (omega (arith, one)) stored.room_is
         (closed-shows (width e) (length (accepted e)) n x (state (accepted e)) is other st.shows front))
 
-    pub collected-one : (alike : Bool) → repeats e.progress.phase ≡ false → length e.progress.gathered.items < 7 → alike ≡ joins e.progress x
-        → Stands (collected e.progress x alike) e.out.now (accepted e ++ x ∷ [])
-    collected-one alike calm less equal =
+    pub collected-one : (alike : Bool) {q : Progress} → repeats e.progress.phase ≡ false → length e.progress.gathered.items < 7 → alike ≡ joins e.progress x
+        → q ≡ collected e.progress x alike → Stands q e.out.now (accepted e ++ x ∷ [])
+    collected-one alike calm less equal now =
         let st = own e in
         let long : length (e.progress.gathered.items ++ x ∷ []) ≡ length e.progress.gathered.items + 1 = length_push e.progress.gathered.items x ∙ omega arith in
-        next (collected e.progress x alike) e.out.now refl refl st.inside (omega arith) refl
+        subst (λ p. Stands p e.out.now (accepted e ++ x ∷ [])) (sym now)
+        (next (collected e.progress x alike) e.out.now refl refl st.inside (omega arith) refl
         (subst (λ b. Shows (width e) e.progress.phase (cond b (Some x) None) (e.progress.gathered.items ++ x ∷ []) (front_of e.progress.phase e.progress.written e.out.now) (step (state (accepted e)) x)) (sym equal)
-        (collected-shows (width e) (length (accepted e)) x (state (accepted e)) (stands-sound st) st.shows calm less))
+        (collected-shows (width e) (length (accepted e)) x (state (accepted e)) (stands-sound st) st.shows calm less)))
 
     module _ (calm : repeats e.progress.phase ≡ false) (seven : length e.progress.gathered.items ≡ 7) where
-      pub begun : (f : RleEncoder) → joins e.progress x ≡ true → Closing e f → Stands (grouped f.progress (Repeating 8) (Some x)) f.out.now (accepted e ++ x ∷ [])
-      begun f equal closing =
+      pub begun : (f : RleEncoder) {q : Progress} → joins e.progress x ≡ true → Closing e f → q ≡ grouped f.progress (Repeating 8) (Some x) → Stands q f.out.now (accepted e ++ x ∷ [])
+      begun f equal closing now =
           let st = own e in
-          subst (λ p. Stands (grouped p (Repeating 8) (Some x)) f.out.now (accepted e ++ x ∷ [])) (sym closing.progress_is)
+          subst (λ p. Stands p f.out.now (accepted e ++ x ∷ [])) (sym (now ∙ ap (λ p. grouped p (Repeating 8) (Some x)) closing.progress_is))
           (next (grouped e.progress (Repeating 8) (Some x)) f.out.now refl refl (omega (arith, st.inside, closing.room_is)) (lit≤ tt) closing.room_is
           (subst (λ y. Shows (width e) (Repeating 8) (Some x) [] y (step (state (accepted e)) x)) (sym closing.front_is)
           (begun-shows (width e) (length (accepted e)) x (state (accepted e)) (stands-sound st) st.shows calm seven equal)))
@@ -145,9 +148,9 @@ module _ (e : RleEncoder) where
         pub open-room : e.progress.phase ≡ Gathering → e.progress.written + 1 + width e ≤ length e.out.now
         open-room is = omega (arith, takes.room_for.fits, stands-gather (own e) x is, cond-false (joins e.progress x) (value_bytes (width e)) (width e) mixed)
 
-        pub opened : {bytes : List ℕ} (f : RleEncoder) → e.progress.phase ≡ Gathering → bytes ≡ group_with e.progress x → Stored e f (e.progress.written + 1) bytes
-            → Stands (grouped (record f.progress { written = e.progress.written + 1 + width e }) (Packing e.progress.written 1) None) f.out.now (accepted e ++ x ∷ [])
-        opened {bytes} f is group stored =
+        pub opened : {bytes : List ℕ} {end : ℕ} (f : RleEncoder) {q : Progress} → e.progress.phase ≡ Gathering → bytes ≡ group_with e.progress x → end ≡ e.progress.written + 1 + length bytes → Stored e f (e.progress.written + 1) bytes
+            → q ≡ grouped (record f.progress { written = end }) (Packing e.progress.written 1) None → Stands q f.out.now (accepted e ++ x ∷ [])
+        opened {bytes} f is group count stored now =
             let st = own e in
             let place = e.progress.written in
             let long : length bytes ≡ width e = ap length group ∙ length-group (width e) (e.progress.gathered.items ++ x ∷ []) in
@@ -162,7 +165,7 @@ module _ (e : RleEncoder) where
             ∙ set_at (take place e.out.now) byte bytes 3 place before
             ∙ ap₂ (λ a b. a ++ 3 ∷ b) (sym (front-gathering place e.out.now is)) group in
             let at : length (front_of e.progress.phase place e.out.now) ≡ place = front_length e.progress.phase place e.out.now st.inside in
-            subst (λ p. Stands (grouped (record p { written = place + 1 + width e }) (Packing place 1) None) f.out.now (accepted e ++ x ∷ [])) (sym stored.progress_is)
+            subst (λ p. Stands p f.out.now (accepted e ++ x ∷ [])) (sym (now ∙ ap₂ (λ p k. grouped (record p { written = k }) (Packing place 1) None) stored.progress_is (count ∙ ap (λ k. place + 1 + k) long)))
             (next (grouped (record e.progress { written = place + 1 + width e }) (Packing place 1) None) f.out.now refl refl
             (omega (arith, stored.room_is)) (lit≤ tt) stored.room_is
             (subst (λ h. Shows (width e) (Packing h 1) None [] (set (take (place + 1 + width e) f.out.now) place 3) (step (state (accepted e)) x)) at
@@ -179,10 +182,10 @@ module _ (e : RleEncoder) where
                 cond-false (joins e.progress x) (1 + value_bytes (width e)) (width e) mixed,
               )
 
-          pub grown : {bytes : List ℕ} (f : RleEncoder) → bytes ≡ group_with e.progress x → Stored e f e.progress.written bytes
+          pub grown : {bytes : List ℕ} {end : ℕ} (f : RleEncoder) {q : Progress} → bytes ≡ group_with e.progress x → end ≡ e.progress.written + length bytes → Stored e f e.progress.written bytes
               → {byte : ℕ} → byte ≡ 2 * (groups + 1) + 1 → {phase : Phase} → phase ≡ cond (eqb (groups + 1) 63) Gathering (Packing header (groups + 1))
-              → Stands (grouped (record f.progress { written = e.progress.written + width e }) phase None) (set f.out.now header byte) (accepted e ++ x ∷ [])
-          grown {bytes} f group stored {byte} byte-is {phase} phase_is =
+              → q ≡ grouped (record f.progress { written = end }) phase None → Stands q (set f.out.now header byte) (accepted e ++ x ∷ [])
+          grown {bytes} f group count stored {byte} byte-is {phase} phase_is now =
               let st = own e in
               let place = e.progress.written in
               let whole = place + width e in
@@ -208,7 +211,7 @@ module _ (e : RleEncoder) where
               ∙ sym (take-set-lt whole f.out.now header byte (omega arith))) in
               let front : front_of phase whole (set f.out.now header byte) ≡ set (front_of e.progress.phase place e.out.now) header later ++ group_with e.progress x =
               again phase phase_is ∙ joined ∙ ap (λ l. l ++ group_with e.progress x) (sym own-front) in
-              subst (λ p. Stands (grouped (record p { written = whole }) phase None) (set f.out.now header byte) (accepted e ++ x ∷ [])) (sym stored.progress_is)
+              subst (λ p. Stands p (set f.out.now header byte) (accepted e ++ x ∷ [])) (sym (now ∙ ap₂ (λ p k. grouped (record p { written = k }) phase None) stored.progress_is (count ∙ ap (λ k. place + k) long)))
               (next (grouped (record e.progress { written = whole }) phase None) (set f.out.now header byte) refl refl
               (omega (arith, grow-room, size)) (lit≤ tt) size
               (subst (λ q. Shows (width e) q None [] (front_of phase whole (set f.out.now header byte)) (step (state (accepted e)) x)) (sym phase_is)

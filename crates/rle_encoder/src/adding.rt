@@ -1,5 +1,5 @@
 //! Adding values to an encoder.
-ghost use Rattle.std.specs.Prelude.{◌≡◌, ◌+◌, ◌*◌, ◌^◌, ◌<◌, ◌≤◌, true, false, [], ◌∷◌, take, if◌then◌else◌, Err, nat_eq};
+ghost use Rattle.std.specs.Prelude.{◌≡◌, ◌+◌, ◌*◌, ◌^◌, ◌<◌, ◌≤◌, true, false, [], ◌∷◌, if◌then◌else◌, Err, nat_eq};
 ghost use Rattle.arrayvec.specs.ArrayVec.{array_vec_len};
 ghost use Rattle.column.specs.Putting.{accepting, answered};
 ghost use Rattle.column.specs.declared.Refusal.{Refusal};
@@ -9,6 +9,7 @@ ghost use Rattle.rle_encoder.specs.declared.phase.Phase.TheVariants.{Gathering, 
 
 use crate::finishing::padded_group;
 use crate::{Phase, RleEncoder};
+use arrayvec::ArrayVec;
 use column::{Element, Refusal};
 use rle::{group_bytes, repeated_bytes};
 
@@ -81,10 +82,8 @@ impl<'a> RleEncoder<'a> {
         requires takes { Takes self.old value }
         ensures { Added self.old self.new (value ∷ []) }
     {
-        let (bytes, taken) = repeated_bytes(count, self.progress.current(), self.progress.width);
-        let place = self.progress.written;
-        self.store(place, &bytes[..taken]);
-        self.progress.written = place + taken;
+        let run = repeated_bytes(count, self.progress.current(), self.progress.width);
+        self.progress.written = self.store(self.progress.written, run.as_slice());
         self.progress.phase = Phase::Gathering;
         self.progress.collect(value, true);
     }
@@ -153,11 +152,9 @@ impl<'a> RleEncoder<'a> {
         requires takes { Takes self.old value }
         ensures { Added self.old self.new (value ∷ []) }
     {
-        let width = self.progress.width;
-        let bytes = self.group_with(value);
+        let group = self.group_with(value);
         let header = self.progress.written;
-        self.store(header + 1, &bytes[..width]);
-        self.progress.written = header + 1 + width;
+        self.progress.written = self.store(header + 1, group.as_slice());
         self.progress
             .close_group(Phase::Packing { header, groups: 1 }, None);
     }
@@ -170,22 +167,20 @@ impl<'a> RleEncoder<'a> {
         requires takes { Takes self.old value }
         ensures { Added self.old self.new (value ∷ []) }
     {
-        let width = self.progress.width;
-        let bytes = self.group_with(value);
-        let place = self.progress.written;
-        self.store(place, &bytes[..width]);
+        let group = self.group_with(value);
+        let end = self.store(self.progress.written, group.as_slice());
         self.out[header] = header_of(groups + 1);
-        self.progress.written = place + width;
+        self.progress.written = end;
         self.progress
             .close_group(open_run(header, groups + 1), None);
     }
 
     // The bytes of the seven collected values and one more as a packed group.
-    fn group_with(&self, value: u64) -> [u8; 64]
+    fn group_with(&self, value: u64) -> ArrayVec<u8, 64>
         requires calm { repeats self.now.progress.phase ≡ false }
         requires eighth { array_vec_len self.now.progress.gathered ≡ 7 }
         requires below { value < 2 ^ width self.now }
-        ensures { take (width self.now) result ≡ group_with self.now.progress value }
+        ensures { result.items ≡ group_with self.now.progress value }
     {
         let mut group = padded_group(self.progress.gathered.as_slice());
         group[7] = value;

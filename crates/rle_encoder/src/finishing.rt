@@ -11,6 +11,7 @@ ghost use Rattle.rle_encoder.specs.Finishing.{Ended, Finished, StandsFor};
 
 use crate::adding::header_of;
 use crate::progress::Progress;
+use crate::storing::write_bytes;
 use crate::{Phase, RleEncoder};
 use rle::{group_bytes, repeated_bytes};
 
@@ -86,10 +87,8 @@ impl Progress {
         ensures bytes { out.new ≡ overwrite out.old self.now.written (run_bytes self.now count) }
         ensures end { result ≡ self.now.written + length (run_bytes self.now count) }
     {
-        let (bytes, taken) = repeated_bytes(count, self.current(), self.width);
-        let end = self.written + taken;
-        out[self.written..end].copy_from_slice(&bytes[..taken]);
-        end
+        let run = repeated_bytes(count, self.current(), self.width);
+        write_bytes(out, self.written, run.as_slice())
     }
 
     // The bytes of the collected values as a packed group, and the place behind them.
@@ -101,10 +100,8 @@ impl Progress {
         ensures bytes { out.new ≡ overwrite out.old at (group_bytes self.now.width (padded self.now.gathered.items)) }
         ensures end { result ≡ at + self.now.width }
     {
-        let bytes = group_bytes(padded_group(self.gathered.as_slice()), self.width);
-        let end = at + self.width;
-        out[at..end].copy_from_slice(&bytes[..self.width]);
-        end
+        let group = group_bytes(padded_group(self.gathered.as_slice()), self.width);
+        write_bytes(out, at, group.as_slice())
     }
 }
 

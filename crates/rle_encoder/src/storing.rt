@@ -1,18 +1,20 @@
 //! Writing to an encoder's buffer.
 ghost use Rattle.std.specs.Prelude.{◌≡◌, ◌+◌, ◌≤◌, length, take};
+ghost use Rattle.packed.specs.Bytes.{overwrite};
 ghost use Rattle.rle_encoder.specs.Encoder.{Closing, Stored, room};
 
 use crate::adding::header_of;
 use crate::{Phase, RleEncoder};
 
 impl<'a> RleEncoder<'a> {
-    // Bytes from a place on that is behind those that are written.
-    pub(crate) fn store(&mut self, at: usize, bytes: &[u8])
+    // Bytes from a place on that is behind those that are written, and the place behind them.
+    pub(crate) fn store(&mut self, at: usize, bytes: &[u8]) -> usize
         requires behind { self.old.progress.written ≤ at }
         requires fits { at + length bytes.now ≤ room self.old }
-        ensures { Stored self.old self.new at bytes.now }
+        ensures stored { Stored self.old self.new at bytes.now }
+        ensures end { result ≡ at + length bytes.now }
     {
-        self.out[at..at + bytes.len()].copy_from_slice(bytes);
+        write_bytes(self.out, at, bytes)
     }
 
     // The header of a packed run that is open, which ends here.
@@ -23,4 +25,15 @@ impl<'a> RleEncoder<'a> {
             self.out[header] = header_of(groups);
         }
     }
+}
+
+// Bytes over those from a place on, and the place behind them.
+pub(crate) fn write_bytes(out: &mut [u8], at: usize, bytes: &[u8]) -> usize
+    requires { at + length bytes.now ≤ length out.old }
+    ensures bytes { out.new ≡ overwrite out.old at bytes.now }
+    ensures end { result ≡ at + length bytes.now }
+{
+    let end = at + bytes.len();
+    out[at..end].copy_from_slice(bytes);
+    end
 }

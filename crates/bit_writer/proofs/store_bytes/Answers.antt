@@ -1,16 +1,13 @@
-use Rattle.std.proofs.Common.{◌≡◌, ap, ◌∙◌, arith}
-use Rattle.packed.specs.Bytes.{overwrite}
+use Rattle.std.proofs.Common.{◌+◌, take, ap, ◌∙◌}
 use Rattle.packed.specs.Digits.{digits}
-use Rattle.bit_writer.proofs.Writing.{store-none, store-more}
+use Rattle.packed.proofs.Digits.{length_digits}
+use Rattle.bit_writer.proofs.Writing.{put_mid-overwrite, low_bytes}
 use Rattle.bit_writer.proofs.store_bytes.Goals as goal
-
-pub loop-i-init : goal.loop-i-init
-loop-i-init c = store-none c.args.out.now c.args.at c.args.v
-
-pub loop-i-preserved : goal.loop-i-preserved
-loop-i-preserved c = store-more c.args.out.now c.loop-i.out c.args.at c.args.v c.loop-i.i (omega arith) c.loop-i.invariant
 
 pub returns : goal.returns
 returns c =
-    let all : c.loop-i.i ≡ c.args.count = omega arith in
-    c.loop-i.invariant ∙ ap (λ k. overwrite c.args.out.now c.args.at (digits 256 k c.args.v)) all
+    let v = c.args.v in
+    let at = c.args.at in
+    let count = c.args.count in
+    let stored = c.copy_from_slice.ensures.after ∙ ap (take count) c.to_le_bytes.ensures ∙ low_bytes count v c.requires.bytes in
+    put_mid-overwrite c.args.out.now _ (digits 256 count v) at (at + count) stored (ap (λ n. at + n) (length_digits 256 count v))

@@ -1,7 +1,8 @@
-use Rattle.std.proofs.Common.{◌≡◌, ◌*◌, ◌^◌, ◌≤◌, ◌++◌, length, take, sym, ap, ◌∙◌, subst, arith, rules}
+use Rattle.std.proofs.Common.{◌≡◌, ◌*◌, ◌^◌, length, take, sym, ap, ◌∙◌, subst, arith, rules, ◌++◌}
 use Rattle.packed.specs.Digits.{digits, number}
 use Rattle.packed.proofs.Digits.{length_digits}
-use Rattle.bit_writer.specs.Writer.{Wrote, buffer, bytes_for, held_bytes}
+use Rattle.bit_writer.specs.Sizes.{bytes_for}
+use Rattle.bit_writer.specs.Writer.{Wrote, buffer, held_bytes}
 use Rattle.rle.proofs.Stored.{stored-first}
 use Rattle.rle.proofs.pieces.store_group.Goals as goal
 
@@ -12,13 +13,10 @@ returns c =
     let b = c.put_packed.new.self in
     let w = c.args.width in
     let n = number (2 ^ w) c.args.values.now in
-    let size : bytes_for (length c.args.values.now * w) ≡ w = ap (λ k. bytes_for (k * w)) c.requires.1.0 ∙ omega arith in
-    let long : length (digits 256 w n) ≡ w = length_digits 256 w n in
-    let same : length (buffer a) ≡ length c.args.out.now = ap length c.new-writer.ensures.same in
-    let room : length (digits 256 w n) ≤ length (buffer a) = omega (arith, c.requires.1.1.1) in
+    let size : bytes_for (length c.args.values.now * w) ≡ w = ap (λ k. bytes_for (k * w)) c.requires.eight ∙ omega arith in
     let stored =
-    stored-first a b (digits 256 w n) c.new-writer.ensures.place c.new-writer.ensures.count room
+    stored-first a b (digits 256 w n) c.new-writer.ensures.place c.new-writer.ensures.count
     (subst (λ k. Wrote a b (held_bytes a ++ digits 256 k n)) size c.put_packed.ensures.bytes) in
-    let front : take w (buffer b) ≡ digits 256 w n = ap (λ k. take k (buffer b)) (sym long) ∙ stored.front in
-    let lent = c.put_packed.ensures.lent ∙ c.new-writer.ensures.lent in
+    let front : take w (buffer b) ≡ digits 256 w n = ap (λ k. take k (buffer b)) (sym (length_digits 256 w n)) ∙ stored.front in
+    let lent = c.put_packed.ensures.bytes.lent ∙ c.new-writer.ensures.lent in
     search rules

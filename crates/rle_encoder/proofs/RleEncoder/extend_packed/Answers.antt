@@ -1,16 +1,16 @@
-use Rattle.std.proofs.Common.{[], ◌∷◌, ◌++◌, length, set, sym, ap, ◌∙◌, subst, arith, length-set}
-use Rattle.rle_encoder.specs.Encoder.{accepted, repeats}
+use Rattle.std.proofs.Common.{[], ◌∷◌, ◌++◌, length, ap, ◌∙◌, arith, length-set}
+use Rattle.rle_encoder.specs.Encoder.{repeats}
 use Rattle.rle_encoder.proofs.Added.{grow-room, grown, header-inside, length-group}
-use Rattle.rle_encoder.proofs.Keeping.{Stands, stands-accepted, stands-kept}
+use Rattle.rle_encoder.proofs.Keeping.{stands-accepted, stands-kept}
 use Rattle.rle_encoder.proofs.RleEncoder.extend_packed.Goals as goal
 
-pub store-requires-clause-fits : goal.store-requires-clause-fits
-store-requires-clause-fits c =
+pub store-end-requires-clause-fits : goal.store-end-requires-clause-fits
+store-end-requires-clause-fits c =
     let e = c.args.self.now in
     omega (
       arith,
       grow-room e c.args.value c.requires.takes (ap repeats c.requires.phase) c.requires.eighth c.requires.mixed c.args.header c.args.groups c.requires.phase,
-      ap length c.group_with-bytes.ensures,
+      ap length (c.as_slice.ensures.value ∙ c.group_with-group.ensures),
       length-group e.progress.width (e.progress.gathered.items ++ c.args.value ∷ []),
     )
 
@@ -22,27 +22,23 @@ header_of-requires c = (header-inside c.args.self.now c.args.header c.args.group
 
 pub bounds-self-header : goal.bounds-self-header
 bounds-self-header c =
-    omega (arith, (header-inside c.args.self.now c.args.header c.args.groups c.requires.phase).0, c.args.self.now.kept.inside, c.store.ensures.room_is)
+    omega (arith, (header-inside c.args.self.now c.args.header c.args.groups c.requires.phase).0, c.args.self.now.kept.inside, c.store-end.ensures.stored.room_is)
 
 pub invariant_of-self : goal.invariant_of-self
 invariant_of-self c =
-    let e = c.args.self.now in
     record {
       kept = stands-kept
-          (subst (λ q. Stands q (set c.store.new.self.out.now c.args.header c.header_of.result) (accepted e ++ c.args.value ∷ [])) (sym c.close_group.ensures)
-          (grown e c.args.value c.requires.takes (ap repeats c.requires.phase) c.requires.eighth c.requires.mixed c.args.header c.args.groups c.requires.phase
-          c.store.new.self c.group_with-bytes.ensures c.store.ensures c.header_of.ensures c.open_run.ensures));
+          (grown c.args.self.now c.args.value c.requires.takes (ap repeats c.requires.phase) c.requires.eighth c.requires.mixed c.args.header c.args.groups c.requires.phase c.store-end.new.self
+          (c.as_slice.ensures.value ∙ c.group_with-group.ensures) c.store-end.ensures.end c.store-end.ensures.stored c.header_of.ensures c.open_run.ensures c.close_group.ensures);
     }
 
 pub returns : goal.returns
 returns c =
-    let e = c.args.self.now in
     record {
       accepted_is = stands-accepted
-          (subst (λ q. Stands q (set c.store.new.self.out.now c.args.header c.header_of.result) (accepted e ++ c.args.value ∷ [])) (sym c.close_group.ensures)
-          (grown e c.args.value c.requires.takes (ap repeats c.requires.phase) c.requires.eighth c.requires.mixed c.args.header c.args.groups c.requires.phase
-          c.store.new.self c.group_with-bytes.ensures c.store.ensures c.header_of.ensures c.open_run.ensures));
-      width_is = ap (λ p. p.width) c.close_group.ensures ∙ ap (λ p. p.width) c.store.ensures.progress_is;
-      room_is = length-set c.store.new.self.out.now c.args.header c.header_of.result ∙ c.store.ensures.room_is;
-      lent_is = c.store.ensures.lent_is;
+          (grown c.args.self.now c.args.value c.requires.takes (ap repeats c.requires.phase) c.requires.eighth c.requires.mixed c.args.header c.args.groups c.requires.phase c.store-end.new.self
+          (c.as_slice.ensures.value ∙ c.group_with-group.ensures) c.store-end.ensures.end c.store-end.ensures.stored c.header_of.ensures c.open_run.ensures c.close_group.ensures);
+      width_is = ap (λ p. p.width) c.close_group.ensures ∙ ap (λ p. p.width) c.store-end.ensures.stored.progress_is;
+      room_is = length-set c.store-end.new.self.out.now c.args.header c.header_of.result ∙ c.store-end.ensures.stored.room_is;
+      lent_is = c.store-end.ensures.stored.lent_is;
     }

@@ -1,22 +1,18 @@
-use Rattle.std.proofs.Common.{length, refl, ap, ◌∙◌, arith}
+use Rattle.std.proofs.Common.{length, refl, ap, ◌∙◌}
 use Rattle.packed.proofs.Overwrite.{length-overwrite}
-use Rattle.rle_encoder.proofs.Added.{accepted-over, copied, kept-over}
+use Rattle.rle_encoder.proofs.Added.{accepted-over, kept-over}
 use Rattle.rle_encoder.proofs.RleEncoder.store.Goals as goal
 
 pub invariant_of-self : goal.invariant_of-self
-invariant_of-self c =
-    let e = c.args.self.now in
-    let is = copied e.out.now c.copy_from_slice.new.self c.args.bytes.now c.args.at _ c.copy_from_slice.ensures.after (omega arith) in
-    record { kept = kept-over c.args.at c.args.bytes.now e.kept is c.requires.behind c.requires.fits }
+invariant_of-self c = record { kept = kept-over c.args.at c.args.bytes.now c.args.self.now.kept c.write_bytes.ensures.bytes c.requires.behind c.requires.fits }
 
-pub returns : goal.returns
-returns c =
+pub returns-clause-stored : goal.returns-clause-stored
+returns-clause-stored c =
     let e = c.args.self.now in
-    let is = copied e.out.now c.copy_from_slice.new.self c.args.bytes.now c.args.at _ c.copy_from_slice.ensures.after (omega arith) in
     record {
-      buffer_is = is;
+      buffer_is = c.write_bytes.ensures.bytes;
       progress_is = refl;
-      room_is = ap length is ∙ length-overwrite e.out.now c.args.at c.args.bytes.now c.requires.fits;
-      accepted_is = accepted-over c.args.at c.args.bytes.now e.kept is c.requires.behind c.requires.fits;
+      room_is = ap length c.write_bytes.ensures.bytes ∙ length-overwrite e.out.now c.args.at c.args.bytes.now c.requires.fits;
+      accepted_is = accepted-over c.args.at c.args.bytes.now e.kept c.write_bytes.ensures.bytes c.requires.behind c.requires.fits;
       lent_is = refl;
     }

@@ -1,13 +1,16 @@
-use Rattle.std.proofs.Common.{length, ap, ◌∙◌, sym, arith}
+use Rattle.std.proofs.Common.{◌+◌, length, ap, ◌∙◌, arith}
+use Rattle.packed.specs.Bytes.{overwrite}
 use Rattle.rle.specs.Runs.{bytes_of, repeated}
-use Rattle.rle_encoder.specs.Encoding.{run_bytes}
-use Rattle.rle_encoder.proofs.Added.{copied}
 use Rattle.rle_encoder.proofs.progress.Progress.write_run.Goals as goal
 
-pub returns-clause-bytes : goal.returns-clause-bytes
-returns-clause-bytes c =
+pub write_bytes-requires : goal.write_bytes-requires
+write_bytes-requires c =
     let p = c.args.self.now in
-    let run = ap (λ v. bytes_of p.width (repeated c.args.count v)) c.current.ensures in
-    copied c.args.out.now c.copy_from_slice.new.self (run_bytes p c.args.count) p.written _
-    (c.copy_from_slice.ensures.after ∙ c.repeated_bytes-taken.ensures.bytes ∙ run)
-    (sym (ap length run) ∙ omega (arith, c.repeated_bytes-taken.ensures.taken))
+    let run = c.as_slice.ensures.value ∙ c.repeated_bytes-run.ensures ∙ ap (λ v. bytes_of p.width (repeated c.args.count v)) c.current.ensures in
+    omega (arith, ap length run, c.requires.fits)
+
+pub returns : goal.returns
+returns c =
+    let p = c.args.self.now in
+    let run = c.as_slice.ensures.value ∙ c.repeated_bytes-run.ensures ∙ ap (λ v. bytes_of p.width (repeated c.args.count v)) c.current.ensures in
+    record { bytes = c.write_bytes.ensures.bytes ∙ ap (overwrite c.args.out.now p.written) run; end = c.write_bytes.ensures.end ∙ ap (λ l. p.written + length l) run }

@@ -2,20 +2,21 @@ use Rattle.std.proofs.Common.{◌≡◌, ◌+◌, ◌-◌, ◌*◌, ◌/◌, ◌
 use Rattle.std.proofs.lemmas.Bool.{lt-ltb, le-ltb, cond-true, cond-false}
 use Rattle.bit_reader.specs.Reader.{readable}
 use Rattle.bit_reader.proofs.Reading.{all_fit, some_fit, counted}
-use Rattle.rle.specs.Reading.{packed_at, packs}
-use Rattle.rle.proofs.runs.packed_run.Goals as goal
+use Rattle.rle.specs.Reading.{packed_at, packs, stopped}
+use Rattle.rle.proofs.runs.Place.packed.Goals as goal
 
 pub returns-then-groups-gt-MAX_GROUPS : goal.returns-then-groups-gt-MAX_GROUPS
 unfolding packed_at
-returns-then-groups-gt-MAX_GROUPS c = sym (cond-true (ltb 2147483647 (8 * c.args.groups)) _ _ (lt-ltb 2147483647 (8 * c.args.groups) (omega arith)))
+returns-then-groups-gt-MAX_GROUPS c =
+    ap stopped c.at.ensures ∙ sym (cond-true (ltb 2147483647 (8 * c.args.groups)) _ _ (lt-ltb 2147483647 (8 * c.args.groups) (omega arith)))
 
 pub returns-then-left-groups : goal.returns-then-left-groups
 unfolding packed_at
 returns-then-left-groups c =
-    let s = c.args.page.now in
+    let s = c.args.self.now.page.now in
     let g = c.args.groups in
-    let w = c.args.width in
-    let start = c.args.start in
+    let w = c.args.self.now.width in
+    let start = c.args.self.now.start in
     let bits : 8 * g * w ≡ 8 * (g * w) = mul_assoc 8 g w in
     let all : 8 * g ≡ readable s (8 * start) w (8 * g) =
     (counted s (8 * start) w (8 * g) (8 * g) (8 * length s - 8 * start) (omega arith) refl (all_fit (8 * length s - 8 * start) w (8 * g) (omega arith))).count in
@@ -25,16 +26,16 @@ returns-then-left-groups c =
 pub overflow_mul-result-2 : goal.overflow_mul-result-2
 overflow_mul-result-2 c =
     let groups : c.args.groups ≤ 268435455 = omega arith in
-    let most : c.args.groups * c.args.width ≤ 268435455 * 64 = mul-le-mul groups c.requires.0 in
+    let most : c.args.groups * c.args.self.now.width ≤ 268435455 * 64 = mul-le-mul groups c.args.self.now.narrow in
     record { fits = omega arith }
 
 pub returns : goal.returns
 unfolding packed_at
 returns c =
-    let s = c.args.page.now in
+    let s = c.args.self.now.page.now in
     let g = c.args.groups in
-    let w = c.args.width in
-    let start = c.args.start in
+    let w = c.args.self.now.width in
+    let start = c.args.self.now.start in
     let bits : 8 * g * w ≡ 8 * (g * w) = mul_assoc 8 g w in
     let space = 8 * length s - 8 * start in
     let fewer : space < 8 * g * w = omega arith in

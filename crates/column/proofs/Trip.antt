@@ -3,20 +3,24 @@ use Rattle.std.proofs.Common.{◌≡◌, ℕ, zero, suc, ◌^◌, ◌<◌, ◌�
 use Rattle.std.specs.List.{AllByRecursion}
 use Rattle.std.proofs.ByRecursion.{All-append, All-drop, All-take, All-weaker}
 use Rattle.std.proofs.lemmas.Bool.{cond_both, ltb-false}
-use Rattle.column.specs.Pages.{end, Waiting, Reading, opened}
+use Rattle.column.specs.Pages.{end, Waiting, opened, with_zeros}
+use Rattle.column.specs.Coding.{Holds}
 use Rattle.column.specs.Putting.{Column}
+use Rattle.column.specs.States.{EncoderState, fresh}
 use Rattle.column.specs.Taking.{Taking, taking, taking_as, short_by, behind}
-use Rattle.column.specs.Trips.{Kind, Lawful, Putting, patterns, accepted_by, accepted_after, Asking, get, get_batch, skip, taken_by, taken, asked_by, asked, NoFault, Faultless, SamePatterns, HandedBy, Handed, ComesBack, Returned, ReturnTrip}
+use Rattle.column.specs.Trips.{Kind, Lawful, Putting, patterns, after_call, after_calls, Asking, get, get_batch, skip, taken_by, taken, asked_by, asked, NoFault, Faultless, SamePatterns, HandedBy, Handed, ComesBack, Returned, ReturnTrip}
+use Rattle.column.specs.declared.meaning.Meaning
 use Rattle.column.specs.declared.declined.Declined.TheVariants.{Refused}
 use Rattle.column.specs.declared.Refusal.TheVariants.{ElementTooNarrow}
-use Rattle.column.proofs.Puts.{Holds, put_holds}
+use Rattle.column.proofs.Puts.{put_holds}
 
 -- ---- what was accepted fits
 
-pub accepted-holds : (need : List ℕ → ℕ) (w room : ℕ) (l : List ℕ) (cs : List Putting) → Holds need w room l → Holds need w room (accepted_after need w room l cs)
-unfolding accepted_after
-accepted-holds need w room l [] h = h
-accepted-holds need w room l (c ∷ cs) h = accepted-holds need w room (accepted_by need w room l c) cs (put_holds need w room l (patterns c) h)
+module _ {C : Type 0} (code : Meaning.Ghosts C) where
+  pub calls-hold : (s : EncoderState) (cs : List Putting) → Holds code s → Holds code (after_calls code.need s cs)
+  unfolding after_calls
+  calls-hold s [] h = h
+  calls-hold s (c ∷ cs) h = calls-hold (after_call code.need s c) cs (put_holds code s (patterns c) h)
 
 -- ---- what is taken
 
@@ -107,9 +111,9 @@ zeros-below : (w k : ℕ) → Below w (replicate k 0)
 zeros-below w zero = tt
 zeros-below w (suc k) = (pow_pos w, zeros-below w k)
 
-pub comes_back : (w : ℕ) (l : List ℕ) (k : ℕ) (asks : List Asking) → w ≤ 64 → Below w l → k ≤ 7 → ComesBack w l (record { values = l ++ replicate k 0; ending = end }) asks
+pub comes_back : (w : ℕ) (l : List ℕ) (k : ℕ) (asks : List Asking) → w ≤ 64 → Below w l → k ≤ 7 → ComesBack w l (with_zeros l k) asks
 comes_back w l k asks narrow below few =
-    let r : Waiting = record { values = l ++ replicate k 0; ending = end } in
+    let r = with_zeros l k in
     record {
       zeros = k;
       few = few;
@@ -120,23 +124,22 @@ comes_back w l k asks narrow below few =
 
 -- ---- over every coding that keeps the laws
 
-module _ (allows : ℕ → Bool) (page : ℕ → List ℕ → List ℕ) (need : ℕ → List ℕ → ℕ) (reads : ℕ → ℕ → List ℕ → Reading)
-    (narrow : (w : ℕ) → T (allows w) → w ≤ 64)
-    (back : (w : ℕ) (l : List ℕ) → T (allows w) → Column w l → (k : ℕ) × (k ≤ 7) × (reads w (length l) (page w l) ≡ opened (record { values = l ++ replicate k 0; ending = end })))
-    (within : (w : ℕ) (l : List ℕ) → T (allows w) → Column w l → length (page w l) ≤ need w l) where
-  pub fresh_holds : (w room : ℕ) → need w [] ≤ room → Holds (need w) w room []
-  fresh_holds w room h = record { column = record { below = tt; count = zero-le }; fits = h }
-
-  pub returned : (w room : ℕ) (l : List ℕ) (asks : List Asking) → T (allows w) → Holds (need w) w room l → Returned page reads w room l asks
-  returned w room l asks allowed holds =
-      let b = back w l allowed holds.column in
+module _ {C : Type 0} (code : Meaning.Ghosts C)
+    (narrow : (w : ℕ) → T (code.allows w) → w ≤ 64)
+    (back : (w : ℕ) (l : List ℕ) → T (code.allows w) → Column w l → (k : ℕ) × (k ≤ 7) × (code.reads w (length l) (code.page w l) ≡ opened (with_zeros l k)))
+    (within : (w : ℕ) (l : List ℕ) → T (code.allows w) → Column w l → length (code.page w l) ≤ code.need w l) where
+  pub returned : (s : EncoderState) (asks : List Asking) → Holds code s → Returned code s asks
+  returned s asks h =
+      let b = back s.width s.accepted h.allowed h.column in
       record {
-        waiting = record { values = l ++ replicate b.0 0; ending = end };
-        fits = omega (arith, within w l allowed holds.column, holds.fits);
+        waiting = with_zeros s.accepted b.0;
+        fits = omega (arith, within s.width s.accepted h.allowed h.column, h.fits);
         opens = b.2;
-        back = comes_back w l b.0 asks (narrow w allowed) holds.column.below b.1;
-        same = λ m e. ap (page w) e;
+        back = comes_back s.width s.accepted b.0 asks (narrow s.width h.allowed) h.column.below b.1;
+        same = λ m e. ap (code.page s.width) e;
       }
 
-  pub return-trip : ReturnTrip allows page need reads
-  return-trip w room puts asks allowed h = returned w room (accepted_after (need w) w room [] puts) asks allowed (accepted-holds (need w) w room [] puts (fresh_holds w room h))
+  pub return-trip : ReturnTrip code
+  return-trip w room puts asks allowed fits =
+      returned (after_calls code.need (fresh w room) puts) asks
+      (calls-hold code (fresh w room) puts (record { column = record { below = tt; count = zero-le }; allowed = allowed; fits = fits }))

@@ -1,136 +1,131 @@
 -- Calls, one after another.
 use Rattle.std.proofs.Common.{◌≡◌, ℕ, ◌+◌, ◌<◌, ◌≤◌, List, [], ◌∷◌, ◌++◌, length, get_or, take, drop, set, Some, sym, refl, ap, ◌∙◌, subst, ap₂, arith}
 use Rattle.std.proofs.lemmas.List.{append-nil, append_assoc, drop_all, drop_more, drop-set-lt, length-set, take_all, take_more_set}
-use Rattle.column.specs.Pages.{Waiting}
+use Rattle.packed.specs.declared.element.Element
 use Rattle.column.specs.Putting.{putting}
-use Rattle.column.specs.Trips.{Kind, patterns, accepted_by, accepted_after, taken_by, left_after}
-use Rattle.column.specs.Working.{put_of, puts_of, puts_answered, ask_of, asks_of, answer_of, cells_by, cells_after, takes_answered}
+use Rattle.column.specs.States.{DecoderState, EncoderState}
+use Rattle.column.specs.Taking.{after_taking}
+use Rattle.column.specs.Trips.{patterns, after_call, after_calls, left_after}
+use Rattle.column.specs.Working.{Put, Take, put_of, puts_of, puts_answered, taken_from, answer_of, cells_by, cells_after, takes_answered, decoder_after}
 use Rattle.column.specs.declared.putting.PutList.{PutList}
-use Rattle.column.specs.declared.working.Put.{Put}
-use Rattle.column.specs.declared.working.Take.{Take}
 use Rattle.column.specs.declared.working.TakeAnswer.{TakeAnswer}
-
--- the first i calls are made and answered; acc is accepted, and the calls stand as now
-pub record PutsWorked {E : Type 0} (k : Kind) (f : E → ℕ) (values : List E) (need : List ℕ → ℕ) (w room : ℕ) (l : List ℕ) (calls : List (Put E)) (i : ℕ) (acc : List ℕ) (now : List (Put E)) : Type 0 where
-  pub answers : puts_answered k f values need w room l calls ≡ take i now ++ puts_answered k f values need w room acc (drop i calls)
-  pub accepted : accepted_after need w room l (puts_of k f values calls) ≡ accepted_after need w room acc (puts_of k f values (drop i calls))
-  pub rest : drop i now ≡ drop i calls
-  pub long : length now ≡ length calls
 
 -- ---- a list that is walked and written over, one element after another
 
-module _ {A : Type 0} (now calls : List A) (i : ℕ) (rest : drop i now ≡ drop i calls) (long : length now ≡ length calls) (inside : i < length now) where
-  inside-calls : i < length calls
-  inside-calls = subst (λ n. i < n) long inside
+-- the first i elements were written over, the others stand as before
+pub record Walked {A : Type 0} (before now : List A) (i : ℕ) : Type 0 where
+  pub rest : drop i now ≡ drop i before
+  pub long : length now ≡ length before
 
-  both : (d : A) → get_or now i d ∷ drop (i + 1) now ≡ get_or calls i d ∷ drop (i + 1) calls
-  both d = sym (drop_more now i d inside) ∙ rest ∙ drop_more calls i d inside-calls
+module _ {A : Type 0} (before now : List A) (i : ℕ) (on : Walked before now i) (inside : i < length now) where
+  inside-before : i < length before
+  inside-before = subst (λ n. i < n) on.long inside
 
-  pub same-call : (d : A) → get_or now i d ≡ get_or calls i d
-  same-call d = ap (λ xs. get_or xs 0 d) (both d)
+  both : (d : A) → get_or now i d ∷ drop (i + 1) now ≡ get_or before i d ∷ drop (i + 1) before
+  both d = sym (drop_more now i d inside) ∙ on.rest ∙ drop_more before i d inside-before
 
-  pub next-rest : (y : A) → drop (i + 1) (set now i y) ≡ drop (i + 1) calls
-  next-rest y = drop-set-lt (i + 1) now i y (omega arith) ∙ ap (drop 1) (both y)
+  same-element : (d : A) → get_or now i d ≡ get_or before i d
+  same-element d = ap (λ xs. get_or xs 0 d) (both d)
+
+  -- what is still to come, by its first element
+  pub drop-walked : (d : A) → drop i before ≡ get_or now i d ∷ drop (i + 1) before
+  drop-walked d = drop_more before i d inside-before ∙ ap (λ x. x ∷ drop (i + 1) before) (sym (same-element d))
+
+  pub walked-more : (y : A) → Walked before (set now i y) (i + 1)
+  walked-more y = record {
+    rest = drop-set-lt (i + 1) now i y (omega arith) ∙ ap (drop 1) (both y);
+    long = length-set now i y ∙ on.long;
+  }
 
 -- ---- puts
 
-module _ {E : Type 0} (k : Kind) (f : E → ℕ) (values : List E) (need : List ℕ → ℕ) (w room : ℕ) (l : List ℕ) (calls : List (Put E)) where
-  pub puts-start : PutsWorked k f values need w room l calls 0 l calls
-  puts-start = record { answers = refl; accepted = refl; rest = refl; long = refl }
+-- the first i calls are made and answered: the encoder stands as t, and the calls as now
+pub record PutsWorked {E : Type 0} (e : Element.Ghosts E) (values : List E) (need : ℕ → List ℕ → ℕ) (s : EncoderState) (calls : List (Put E)) (i : ℕ) (t : EncoderState) (now : List (Put E)) : Type 0 where
+  pub answers : puts_answered e values need s calls ≡ take i now ++ puts_answered e values need t (drop i calls)
+  pub state : after_calls need s (puts_of e values calls) ≡ after_calls need t (puts_of e values (drop i calls))
+  pub walked : Walked calls now i
 
-  module _ (i : ℕ) (acc : List ℕ) (now : List (Put E)) (on : PutsWorked k f values need w room l calls i acc now) where
-    pub puts-more : (d y : Put E) (acc' : List ℕ) (a : PutList) → i < length now → y ≡ record { call = (get_or now i d).call; answer = Some a }
-        → a ≡ putting need w room acc (patterns (put_of k f values (get_or now i d).call)) → acc' ≡ accepted_by need w room acc (put_of k f values (get_or now i d).call)
-        → PutsWorked k f values need w room l calls (i + 1) acc' (set now i y)
-    unfolding puts_answered accepted_after
-    puts-more d y acc' a inside is answer accepted =
-        let c = get_or calls i d in
-        let same = same-call now calls i on.rest on.long inside d in
-        let after = accepted_by need w room acc (put_of k f values c.call) in
-        let acc-is : acc' ≡ after = accepted ∙ ap (λ (x : Put E). accepted_by need w room acc (put_of k f values x.call)) same in
-        let y-is : record { call = c.call; answer = Some (putting need w room acc (patterns (put_of k f values c.call))) } ≡ y =
-        ap (λ (x : Put E). record { call = x.call; answer = Some (putting need w room acc (patterns (put_of k f values x.call))) }) (sym same)
-        ∙ ap (λ (x : PutList). record { call = (get_or now i d).call; answer = Some x }) (sym answer)
-        ∙ sym is in
-        let walk = drop_more calls i d (inside-calls now calls i on.rest on.long inside) in
+module _ {E : Type 0} (e : Element.Ghosts E) (values : List E) (need : ℕ → List ℕ → ℕ) (s : EncoderState) (calls : List (Put E)) where
+  pub puts-start : PutsWorked e values need s calls 0 s calls
+  puts-start = record { answers = refl; state = refl; walked = record { rest = refl; long = refl } }
+
+  module _ (i : ℕ) (t : EncoderState) (now : List (Put E)) (on : PutsWorked e values need s calls i t now) where
+    pub puts-more : (d y : Put E) (a : PutList) (t' : EncoderState) → i < length now → y ≡ record { call = (get_or now i d).call; answer = Some a }
+        → a ≡ putting need t (patterns (put_of e values (get_or now i d).call))
+        → t' ≡ after_call need t (put_of e values (get_or now i d).call)
+        → PutsWorked e values need s calls (i + 1) t' (set now i y)
+    unfolding puts_answered after_calls
+    puts-more d y a t' inside is answer state =
+        let c = get_or now i d in
+        let others = drop (i + 1) calls in
+        let walk = drop-walked calls now i on.walked inside d in
         record {
           answers =
               on.answers
-              ∙ ap (λ xs. take i now ++ puts_answered k f values need w room acc xs) walk
-              ∙ ap₂ (λ (x : Put E) (z : List ℕ). take i now ++ x ∷ puts_answered k f values need w room z (drop (i + 1) calls)) y-is (sym acc-is)
-              ∙ sym (append_assoc (take i now) (y ∷ []) (puts_answered k f values need w room acc' (drop (i + 1) calls)))
-              ∙ ap (λ xs. xs ++ puts_answered k f values need w room acc' (drop (i + 1) calls)) (sym (take_more_set now i y inside));
-          accepted =
-              on.accepted
-              ∙ ap (λ xs. accepted_after need w room acc (puts_of k f values xs)) walk
-              ∙ ap (λ z. accepted_after need w room z (puts_of k f values (drop (i + 1) calls))) (sym acc-is);
-          rest = next-rest now calls i on.rest on.long inside y;
-          long = length-set now i y ∙ on.long;
+              ∙ ap (λ xs. take i now ++ puts_answered e values need t xs) walk
+              ∙ ap₂ (λ (x : Put E) (z : EncoderState). take i now ++ x ∷ puts_answered e values need z others) (ap (λ (x : PutList). record { call = c.call; answer = Some x }) (sym answer) ∙ sym is) (sym state)
+              ∙ sym (append_assoc (take i now) (y ∷ []) (puts_answered e values need t' others))
+              ∙ ap (λ xs. xs ++ puts_answered e values need t' others) (sym (take_more_set now i y inside));
+          state =
+              on.state
+              ∙ ap (λ xs. after_calls need t (puts_of e values xs)) walk
+              ∙ ap (λ z. after_calls need z (puts_of e values others)) (sym state);
+          walked = walked-more calls now i on.walked inside y;
         }
 
-    pub puts-all : length calls ≤ i → (now ≡ puts_answered k f values need w room l calls) × (acc ≡ accepted_after need w room l (puts_of k f values calls))
-    unfolding puts_answered accepted_after
+    pub puts-all : length calls ≤ i → (now ≡ puts_answered e values need s calls) × (t ≡ after_calls need s (puts_of e values calls))
+    unfolding puts_answered after_calls
     puts-all all =
         let none = drop_all i calls all in (
-          sym (on.answers ∙ ap (λ xs. take i now ++ puts_answered k f values need w room acc xs) none ∙ append-nil (take i now) ∙ take_all i now (subst (λ n. n ≤ i) (sym on.long) all)),
-          sym (on.accepted ∙ ap (λ xs. accepted_after need w room acc (puts_of k f values xs)) none),
+          sym (on.answers ∙ ap (λ xs. take i now ++ puts_answered e values need t xs) none ∙ append-nil (take i now) ∙ take_all i now (subst (λ n. n ≤ i) (sym on.walked.long) all)),
+          sym (on.state ∙ ap (λ xs. after_calls need t (puts_of e values xs)) none),
         )
 
 -- ---- takes
 
--- the first i calls are made and answered; r is left, and the cells and the calls stand as now
-pub record TakesWorked {E : Type 0} (k : Kind) (made : ℕ → E) (w n : ℕ) (first : Waiting) (cells : List E) (calls : List (Take E)) (i : ℕ) (r : Waiting) (cells-now : List E) (now : List (Take E)) : Type 0 where
-  pub answers : takes_answered k made w n first calls ≡ take i now ++ takes_answered k made w n r (drop i calls)
-  pub cells_are : cells_after k made w n first cells calls ≡ cells_after k made w n r cells-now (drop i calls)
-  pub left : left_after w first (asks_of k made n calls) ≡ left_after w r (asks_of k made n (drop i calls))
-  pub rest : drop i now ≡ drop i calls
-  pub long : length now ≡ length calls
+-- the first i calls are made and answered: the decoder stands as t, and the cells and the calls as now
+pub record TakesWorked {E : Type 0} (e : Element.Ghosts E) (n : ℕ) (d : DecoderState) (cells : List E) (calls : List (Take E)) (i : ℕ) (t : DecoderState) (cells-now : List E) (now : List (Take E)) : Type 0 where
+  pub answers : takes_answered e n d calls ≡ take i now ++ takes_answered e n t (drop i calls)
+  pub cells_are : cells_after e n d cells calls ≡ cells_after e n t cells-now (drop i calls)
+  pub state : decoder_after e n d calls ≡ decoder_after e n t (drop i calls)
+  pub walked : Walked calls now i
 
-module _ {E : Type 0} (k : Kind) (made : ℕ → E) (w n : ℕ) (first : Waiting) (cells : List E) (calls : List (Take E)) where
-  pub takes-start : TakesWorked k made w n first cells calls 0 first cells calls
-  takes-start = record { answers = refl; cells_are = refl; left = refl; rest = refl; long = refl }
+module _ {E : Type 0} (e : Element.Ghosts E) (n : ℕ) (d : DecoderState) (cells : List E) (calls : List (Take E)) where
+  pub takes-start : TakesWorked e n d cells calls 0 d cells calls
+  takes-start = record { answers = refl; cells_are = refl; state = refl; walked = record { rest = refl; long = refl } }
 
-  module _ (i : ℕ) (r : Waiting) (cells-now : List E) (now : List (Take E)) (on : TakesWorked k made w n first cells calls i r cells-now now) where
-    pub takes-more : (d y : Take E) (r' : Waiting) (cells' : List E) (a : TakeAnswer E) → i < length now → y ≡ record { call = (get_or now i d).call; answer = Some a }
-        → a ≡ answer_of k made (get_or now i d).call (taken_by w (ask_of k n (get_or now i d).call) r)
-        → cells' ≡ cells_by k made cells-now (get_or now i d).call (taken_by w (ask_of k n (get_or now i d).call) r)
-        → r' ≡ (taken_by w (ask_of k n (get_or now i d).call) r).left
-        → TakesWorked k made w n first cells calls (i + 1) r' cells' (set now i y)
+  module _ (i : ℕ) (t : DecoderState) (cells-now : List E) (now : List (Take E)) (on : TakesWorked e n d cells calls i t cells-now now) where
+    pub takes-more : (b y : Take E) (a : TakeAnswer E) (t' : DecoderState) (cells' : List E) → i < length now → y ≡ record { call = (get_or now i b).call; answer = Some a }
+        → a ≡ answer_of e (get_or now i b).call (taken_from e n t (get_or now i b).call)
+        → cells' ≡ cells_by e cells-now (get_or now i b).call (taken_from e n t (get_or now i b).call)
+        → t' ≡ after_taking (taken_from e n t (get_or now i b).call) t
+        → TakesWorked e n d cells calls (i + 1) t' cells' (set now i y)
     unfolding takes_answered cells_after left_after
-    takes-more d y r' cells' a inside is answer cells_is left_is =
-        let c = get_or calls i d in
-        let same = same-call now calls i on.rest on.long inside d in
-        let r-is : r' ≡ (taken_by w (ask_of k n c.call) r).left = left_is ∙ ap (λ (x : Take E). (taken_by w (ask_of k n x.call) r).left) same in
-        let cells-are-now : cells' ≡ cells_by k made cells-now c.call (taken_by w (ask_of k n c.call) r) =
-        cells_is ∙ ap (λ (x : Take E). cells_by k made cells-now x.call (taken_by w (ask_of k n x.call) r)) same in
-        let y-is : record { call = c.call; answer = Some (answer_of k made c.call (taken_by w (ask_of k n c.call) r)) } ≡ y =
-        ap (λ (x : Take E). record { call = x.call; answer = Some (answer_of k made x.call (taken_by w (ask_of k n x.call) r)) }) (sym same)
-        ∙ ap (λ (x : TakeAnswer E). record { call = (get_or now i d).call; answer = Some x }) (sym answer)
-        ∙ sym is in
-        let walk = drop_more calls i d (inside-calls now calls i on.rest on.long inside) in
+    takes-more b y a t' cells' inside is answer cells_is state =
+        let c = get_or now i b in
         let others = drop (i + 1) calls in
+        let walk = drop-walked calls now i on.walked inside b in
         record {
           answers =
               on.answers
-              ∙ ap (λ xs. take i now ++ takes_answered k made w n r xs) walk
-              ∙ ap₂ (λ (x : Take E) (z : Waiting). take i now ++ x ∷ takes_answered k made w n z others) y-is (sym r-is)
-              ∙ sym (append_assoc (take i now) (y ∷ []) (takes_answered k made w n r' others))
-              ∙ ap (λ xs. xs ++ takes_answered k made w n r' others) (sym (take_more_set now i y inside));
+              ∙ ap (λ xs. take i now ++ takes_answered e n t xs) walk
+              ∙ ap₂ (λ (x : Take E) (z : DecoderState). take i now ++ x ∷ takes_answered e n z others) (ap (λ (x : TakeAnswer E). record { call = c.call; answer = Some x }) (sym answer) ∙ sym is) (sym state)
+              ∙ sym (append_assoc (take i now) (y ∷ []) (takes_answered e n t' others))
+              ∙ ap (λ xs. xs ++ takes_answered e n t' others) (sym (take_more_set now i y inside));
           cells_are =
               on.cells_are
-              ∙ ap (cells_after k made w n r cells-now) walk
-              ∙ ap₂ (λ (z : Waiting) (x : List E). cells_after k made w n z x others) (sym r-is) (sym cells-are-now);
-          left = on.left ∙ ap (λ xs. left_after w r (asks_of k made n xs)) walk ∙ ap (λ z. left_after w z (asks_of k made n others)) (sym r-is);
-          rest = next-rest now calls i on.rest on.long inside y;
-          long = length-set now i y ∙ on.long;
+              ∙ ap (cells_after e n t cells-now) walk
+              ∙ ap₂ (λ (z : DecoderState) (x : List E). cells_after e n z x others) (sym state) (sym cells_is);
+          state = on.state ∙ ap (decoder_after e n t) walk ∙ ap (λ z. decoder_after e n z others) (sym state);
+          walked = walked-more calls now i on.walked inside y;
         }
 
     pub takes_all : length calls ≤ i
-        → (now ≡ takes_answered k made w n first calls) × (cells-now ≡ cells_after k made w n first cells calls) × (r ≡ left_after w first (asks_of k made n calls))
+        → (now ≡ takes_answered e n d calls) × (cells-now ≡ cells_after e n d cells calls) × (t ≡ decoder_after e n d calls)
     unfolding takes_answered cells_after left_after
     takes_all all =
         let none = drop_all i calls all in (
-          sym (on.answers ∙ ap (λ xs. take i now ++ takes_answered k made w n r xs) none ∙ append-nil (take i now) ∙ take_all i now (subst (λ m. m ≤ i) (sym on.long) all)),
-          sym (on.cells_are ∙ ap (cells_after k made w n r cells-now) none),
-          sym (on.left ∙ ap (λ xs. left_after w r (asks_of k made n xs)) none),
+          sym (on.answers ∙ ap (λ xs. take i now ++ takes_answered e n t xs) none ∙ append-nil (take i now) ∙ take_all i now (subst (λ m. m ≤ i) (sym on.walked.long) all)),
+          sym (on.cells_are ∙ ap (cells_after e n t cells-now) none),
+          sym (on.state ∙ ap (decoder_after e n t) none),
         )

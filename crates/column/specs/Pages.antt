@@ -1,5 +1,5 @@
 -- What a page means: the values that wait in it, and how they end.
-use Rattle.std.specs.Prelude.{List, [], ◌++◌, ℕ}
+use Rattle.std.specs.Prelude.{List, [], ◌++◌, ℕ, replicate}
 use Rattle.packed.specs.declared.faults.Fault.{Fault}
 
 pub data Ending : Type 0 where
@@ -16,6 +16,10 @@ nothing e = record { values = []; ending = e }
 -- Values in front of others.
 abbrev pub before : List ℕ → Waiting → Waiting
 before vs r = record { values = vs ++ r.values; ending = r.ending }
+
+-- A list, zeros behind it, and then the end.
+abbrev pub with_zeros : List ℕ → ℕ → Waiting
+with_zeros l k = record { values = l ++ replicate k 0; ending = end }
 
 -- A page reads as a fault in its head, or it opens.
 pub data Reading : Type 0 where

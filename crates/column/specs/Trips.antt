@@ -1,10 +1,14 @@
 -- The return trip, over whole runs of calls: puts and put lists on a fresh encoder, its finish, an open, and gets, get batches
 -- and skips. Each call has an element type of its own.
-use Rattle.std.specs.Prelude.{◌≡◌, ℕ, ◌+◌, ◌%◌, ◌^◌, ◌<◌, ◌≤◌, Bool, cond, T, List, [], ◌∷◌, ◌++◌, length, take, replicate, Ok, Err, Result, nat_lt}
+use Rattle.std.specs.Prelude.{◌≡◌, ℕ, ◌+◌, ◌%◌, ◌^◌, ◌<◌, ◌≤◌, cond, T, List, [], ◌∷◌, ◌++◌, length, take, replicate, Ok, Err, Result, nat_lt}
 use Rattle.std.specs.List.{AllByRecursion}
-use Rattle.column.specs.Pages.{Waiting, Reading, opened}
+use Rattle.packed.specs.declared.element.Element
+use Rattle.column.specs.Pages.{Waiting, opened}
+use Rattle.column.specs.Coding.{page_of}
 use Rattle.column.specs.Putting.{putting}
+use Rattle.column.specs.States.{EncoderState, fresh, with_more}
 use Rattle.column.specs.Taking.{Taking, taking, taking_as}
+use Rattle.column.specs.declared.meaning.Meaning
 use Rattle.column.specs.declared.declined.Declined.{Declined}
 use Rattle.column.specs.declared.declined.Declined.TheVariants.{Refused, Faulted}
 
@@ -12,6 +16,10 @@ use Rattle.column.specs.declared.declined.Declined.TheVariants.{Refused, Faulted
 pub record Kind : Type 0 where
   pub bits : ℕ
   pub again : ℕ → ℕ
+
+-- An element type by its definitions.
+abbrev pub kind_of : {E : Type 0} → Element.Ghosts E → Kind
+kind_of e = record { bits = e.WIDTH; again = λ p. e.pattern (e.made p) }
 
 abbrev pub Lawful : Kind → Type 0
 Lawful k = (p : ℕ) → p < 2 ^ 64 → k.again p ≡ p % 2 ^ k.bits
@@ -27,14 +35,14 @@ abbrev pub patterns : Putting → List ℕ
 patterns (put k p) = p ∷ []
 patterns (put_list k ps) = ps
 
-module _ (need : List ℕ → ℕ) (w room : ℕ) where
-  -- What is accepted after a call, and after calls: of each its values up to the first that is refused.
-  abbrev pub accepted_by : List ℕ → Putting → List ℕ
-  accepted_by l c = l ++ take (putting need w room l (patterns c)).count (patterns c)
+module _ (need : ℕ → List ℕ → ℕ) where
+  -- An encoder after a call, and after calls: it accepted of each the values up to the first that is refused.
+  abbrev pub after_call : EncoderState → Putting → EncoderState
+  after_call s c = with_more s (take (putting need s (patterns c)).count (patterns c))
 
-  unfoldable pub accepted_after : List ℕ → List Putting → List ℕ
-  accepted_after l [] = l
-  accepted_after l (c ∷ cs) = accepted_after (accepted_by l c) cs
+  unfoldable pub after_calls : EncoderState → List Putting → EncoderState
+  after_calls s [] = s
+  after_calls s (c ∷ cs) = after_calls (after_call s c) cs
 
 -- ---- takes
 
@@ -105,16 +113,16 @@ pub record ComesBack (w : ℕ) (l : List ℕ) (r : Waiting) (asks : List Asking)
   pub no_fault : Faultless w r asks
   pub handed : Handed w r asks
 
--- Over every width that the coding has, every buffer, and every list of calls: the page of what was accepted fits, opens, and
--- comes back. Equal lists have equal pages.
-pub record Returned (page : ℕ → List ℕ → List ℕ) (reads : ℕ → ℕ → List ℕ → Reading) (w room : ℕ) (l : List ℕ) (asks : List Asking) : Type 0 where
+-- What comes back of an encoder that is finished: its page fits, opens, and comes back. Equal lists have equal pages.
+pub record Returned {C : Type 0} (code : Meaning.Ghosts C) (s : EncoderState) (asks : List Asking) : Type 0 where
   pub waiting : Waiting
-  pub fits : length (page w l) ≤ room
-  pub opens : reads w (length l) (page w l) ≡ opened waiting
-  pub back : ComesBack w l waiting asks
-  pub same : (m : List ℕ) → m ≡ l → page w m ≡ page w l
+  pub fits : length (page_of code s) ≤ s.room
+  pub opens : code.reads s.width (length s.accepted) (page_of code s) ≡ opened waiting
+  pub back : ComesBack s.width s.accepted waiting asks
+  pub same : (m : List ℕ) → m ≡ s.accepted → code.page s.width m ≡ page_of code s
 
-abbrev pub ReturnTrip : (ℕ → Bool) → (ℕ → List ℕ → List ℕ) → (ℕ → List ℕ → ℕ) → (ℕ → ℕ → List ℕ → Reading) → Type 0
-ReturnTrip allows page need reads =
-    (w room : ℕ) (puts : List Putting) (asks : List Asking) → T (allows w) → need w [] ≤ room
-    → Returned page reads w room (accepted_after (need w) w room [] puts) asks
+-- So it is over every width that the coding has, every buffer, and every list of calls.
+abbrev pub ReturnTrip : {C : Type 0} → Meaning.Ghosts C → Type 0
+ReturnTrip code =
+    (w room : ℕ) (puts : List Putting) (asks : List Asking) → T (code.allows w) → code.need w [] ≤ room
+    → Returned code (after_calls code.need (fresh w room) puts) asks

@@ -5,9 +5,11 @@ ghost use Rattle.std.specs.Prelude.{◌≡◌};
 
 use crate::Refusal;
 use packed::Fault;
+use std::error::Error;
+use std::fmt;
 
 /// Why a reading call gave less than was asked for.
-#[derive(Clone, Copy)]
+#[derive(Clone, Copy, Debug, PartialEq, Eq)]
 pub enum Declined {
     /// it was refused, and changed nothing
     Refused(Refusal),
@@ -36,6 +38,17 @@ impl Declined {
         }
     }
 }
+
+impl fmt::Display for Declined {
+    fn fmt<W: fmt::Write>(&self, f: &mut fmt::Formatter<W>) -> fmt::Result {
+        match self {
+            Declined::Refused(refusal) => write!(f, "{refusal}"),
+            Declined::Faulted { fault, count } => write!(f, "{fault}, behind {count} values"),
+        }
+    }
+}
+
+impl Error for Declined {}
 
 /// A fault that no value came before.
 impl From<Fault> for Declined {

@@ -1,10 +1,11 @@
 -- A written page stands in the public format's relation to its list.
-use Rattle.std.proofs.Common.{◌≡◌, ℕ, zero, suc, ◌+◌, ◌*◌, ◌/◌, ◌%◌, ◌^◌, ◌<◌, ◌≤◌, List, [], ◌∷◌, ◌++◌, length, replicate, sym, ap, ◌∙◌, subst, ⊎_elim, zero-le, lt_of_lt_of_le, mod-lt, mod-eq_of_lt, mul_comm, mul-le-mul_left, mul_left_comm, arith, lit<, lit≤, length-append, pow_pos, pow_mono}
+use Rattle.std.proofs.Common.{◌≡◌, ℕ, zero, suc, ◌+◌, ◌*◌, ◌/◌, ◌%◌, ◌^◌, ◌<◌, ◌≤◌, List, [], ◌∷◌, ◌++◌, length, replicate, sym, ap, ◌∙◌, subst, ⊎_elim, zero-le, lt_of_lt_of_le, mod-lt, mod-eq_of_lt, mul_comm, mul-le-mul_left, mul_left_comm, arith, lit<, lit≤, T, leb, leb→le, length-append, pow_pos, pow_mono}
 use lib.ListN.{length-replicate}
 use Rattle.std.proofs.lemmas.Bool.{cases_lt}
 use Rattle.std.specs.List.{flat_map, AllByRecursion}
 use Rattle.std.proofs.lemmas.List.{append_assoc}
 use Rattle.packed.specs.Digits.{digits, number}
+use Rattle.column.specs.Putting.{Column}
 use Rattle.packed.specs.Vlq.{vlq}
 use Rattle.packed.proofs.Bytes.{power-bits}
 use Rattle.packed.proofs.Digits.{length_digits, number_digits, number-below}
@@ -106,3 +107,7 @@ page-short w l wide below most =
     let size : length (values_in rs) ≡ length l + values.0 =
     ap length (values.2 ∙ ap (λ x. x ++ replicate values.0 0) (state-held l)) ∙ length-append l (replicate values.0 0) ∙ ap (λ k. length l + k) (length-replicate values.0 0) in
     omega (arith, runs-short w (length l) rs wide most (closing-sound w (length l) (state l) (state-sound w l below)), values.1)
+
+-- the same as a coding says it
+pub need-bounded : (w : ℕ) (l : List ℕ) → T (leb w 64) → Column w l → length (page w l) ≤ 2080 + 9 * length l
+need-bounded w l allowed column = omega (arith, page-short w l (leb→le w 64 allowed) column.below column.count)

@@ -11,19 +11,12 @@ use Rattle.rle.specs.Writing.{written, pending, recalled}
 use Rattle.rle.proofs.Splitting.{Sound, state-sound}
 use Rattle.rle.proofs.Writing.{recalls, state-append}
 use Rattle.rle_encoder.specs.Encoding.{Kept, accepted_of, all_below, front_of, held_in, nothing, phase_of, same_of}
+use Rattle.rle_encoder.specs.Keeping.{kept-column}
 use Rattle.rle_encoder.specs.declared.phase.Phase.{Phase}
 use Rattle.rle_encoder.specs.declared.phase.Phase.TheVariants.{Gathering, Packing, Repeating}
 use Rattle.rle_encoder.specs.declared.progress.Progress.{Progress}
 
 -- ---- every value is below 2 ^ w
-
-pub below_all : (w : ℕ) (l : List ℕ) → all_below w l ≡ true → AllByRecursion (λ v. v < 2 ^ w) l
-below_all w [] e = tt
-below_all w (v ∷ vs) e =
-    ⊎_elim
-    (λ small. (ltb-true v (2 ^ w) small, below_all w vs (sym (cond-true (ltb v (2 ^ w)) (all_below w vs) false small) ∙ e)))
-    (λ large. absurd (both_ways false refl (sym (cond-false (ltb v (2 ^ w)) (all_below w vs) false large) ∙ e)))
-    (cases_Bool (ltb v (2 ^ w)))
 
 pub all-below : (w : ℕ) (l : List ℕ) → AllByRecursion (λ v. v < 2 ^ w) l → all_below w l ≡ true
 all-below w [] a = refl
@@ -81,7 +74,7 @@ module _ {p : Progress} {out : List ℕ} where
         inside = k.inside;
         few = k.few;
         shows = record { bytes = k.bytes; held = k.held; phase_is = k.shown; same_is = k.same };
-        column = record { below = below_all p.width (accepted_of p out) k.below; count = omega (arith, k.counted, k.short) };
+        column = kept-column k;
         counted = k.counted;
         fits = k.fits;
       }

@@ -2,6 +2,7 @@
 use Rattle.std.specs.Prelude.{◌≡◌, ℕ, ◌+◌, ◌^◌, ◌<◌, ◌≤◌, Bool, true, false, List, [], ◌∷◌, ◌++◌, length, take, replicate, Some, None, Ok, Err, Option, Result}
 use Rattle.packed.specs.Bytes.{overwrite}
 use Rattle.column.specs.Putting.{unput}
+use Rattle.column.specs.States.{EncoderState}
 use Rattle.column.specs.declared.Refusal.{Refusal}
 use Rattle.rle.specs.Runs.{state, page}
 use Rattle.rle_encoder.specs.Encoding.{accepted_of, front_of}
@@ -22,13 +23,17 @@ width e = e.progress.width
 abbrev pub room : RleEncoder → ℕ
 room e = length e.out.now
 
+-- Where an encoder stands.
+abbrev pub state_of : RleEncoder → EncoderState
+state_of e = record { width = width e; room = room e; accepted = accepted e }
+
 -- How many bytes the page of a list takes.
 abbrev pub need : ℕ → List ℕ → ℕ
 need w l = length (page w l)
 
 -- Why a pattern is not added.
 abbrev pub refusal : RleEncoder → ℕ → Option Refusal
-refusal e p = unput (need (width e)) (width e) (room e) (accepted e) p
+refusal e p = unput need (state_of e) p
 
 -- Why the value that repeats is not added `count` times more.
 abbrev pub run_refusal : RleEncoder → ℕ → Option Refusal

@@ -2,3 +2,4 @@ pub mod Encoder
 pub mod Encoding
 pub mod Extending
 pub mod Finishing
+pub mod Keeping

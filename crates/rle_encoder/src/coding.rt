@@ -1,5 +1,7 @@
 //! The encoder as one of the column codings.
-ghost use Rattle.rle_encoder.specs.Encoder.{accepted as accepted_by, room as room_of, width as width_of};
+ghost use Rattle.std.proofs.Common.{le→leb};
+ghost use Rattle.rle_encoder.specs.Encoder.{state_of};
+ghost use Rattle.rle_encoder.specs.Keeping.{kept-column};
 
 use crate::meaning::RlePages;
 use crate::{RleEncoder, RlePass};
@@ -14,11 +16,7 @@ impl Pass for RlePass {
 impl<'a> Encoder<'a> for RleEncoder<'a> {
     type Code = RlePages;
 
-    ghost width = { λ e. width_of e };
-
-    ghost room = { λ e. room_of e };
-
-    ghost accepted = { λ e. accepted_by e };
+    ghost state = { state_of };
 
     fn put<E: Element>(&mut self, v: E) -> Result<(), Refusal> {
         RleEncoder::put(self, v)
@@ -29,4 +27,10 @@ impl<'a> Encoder<'a> for RleEncoder<'a> {
         let end = progress.close(out);
         (end, out)
     }
+
+    ghost holds = { λ e. record {
+      column = kept-column e.kept;
+      allowed = le→leb e.progress.width 64 e.kept.narrow;
+      fits = e.kept.fits;
+    } };
 }

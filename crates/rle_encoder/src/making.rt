@@ -1,16 +1,16 @@
 //! Making an encoder.
-ghost use Rattle.std.specs.Prelude.{◌≡◌, ◌≤◌, [], length, nat_le};
-ghost use Rattle.column.specs.Putting.{Checking};
-ghost use Rattle.rle_encoder.specs.Encoder.{accepted, need, width as width_of};
+ghost use Rattle.std.specs.Prelude.{◌≡◌, ◌≤◌, [], length};
+ghost use Rattle.column.specs.Coding.{Checking};
+ghost use Rattle.rle_encoder.specs.Encoder.{accepted, width as width_of};
 
 use crate::progress::Progress;
-use crate::{RleEncoder, RlePass};
-use column::Refusal;
+use crate::{RleEncoder, RlePages, RlePass};
+use column::{Meaning, Pass, Refusal};
 
 impl<'a> RleEncoder<'a> {
     /// Whether an encoder of this width can be made over the buffer. The empty list needs no byte.
     pub fn check(out: &[u8], width: u32) -> Result<RlePass, Refusal>
-        ensures { Checking (λ (p : RlePass). p.width) (λ p. p.room) (nat_le width 64) (need width []) width (length out.now) result }
+        ensures { Checking ⟦<RlePass as Pass>⟧ ⟦<RlePages as Meaning>⟧ width (length out.now) result }
     {
         pass_for(width, out.len())
     }
@@ -43,19 +43,13 @@ impl<'a> RleEncoder<'a> {
 
 // The pass for a width and a buffer's length.
 fn pass_for(width: u32, room: usize) -> Result<RlePass, Refusal>
-    ensures { Checking (λ (p : RlePass). p.width) (λ p. p.room) (nat_le width 64) (need width []) width room result }
+    ensures { Checking ⟦<RlePass as Pass>⟧ ⟦<RlePages as Meaning>⟧ width room result }
 {
-    if !is_allowed(width) {
+    if !RlePages::has_width(width) {
         return Err(Refusal::BadWidth);
     }
     Ok(RlePass {
         width: width as usize,
         room,
     })
-}
-
-fn is_allowed(width: u32) -> bool
-    ensures { result ≡ nat_le width 64 }
-{
-    width <= 64
 }

@@ -2,9 +2,9 @@
 ghost use Rattle.rle.specs.Reading.{reads as reads_as};
 ghost use Rattle.rle.specs.Runs.{page as page_of};
 ghost use Rattle.std.specs.Prelude.{length, nat_le};
-ghost use Rattle.std.proofs.Common.{leb→le, le_refl, arith};
+ghost use Rattle.std.proofs.Common.{leb→le, le_refl};
 ghost use Rattle.rle.proofs.ReadBack.{hybrid-opens};
-ghost use Rattle.rle.proofs.Standing.{page-stands, page-short};
+ghost use Rattle.rle.proofs.Standing.{need-bounded, page-stands};
 
 use column::Meaning;
 
@@ -20,11 +20,15 @@ impl Meaning for RlePages {
 
     ghost reads = { λ w _ s. reads_as w s };
 
+    fn has_width(width: u32) -> bool {
+        width <= 64
+    }
+
     ghost widths_are_narrow = { λ w allowed. leb→le w 64 allowed };
 
     ghost written_is_read = { λ w l allowed column. let stands = page-stands w l column.below column.count in (stands.0, stands.1, hybrid-opens w stands.2) };
 
     ghost page_within_need = { λ w l allowed column. le_refl (length (page_of w l)) };
 
-    ghost need_is_bounded = { λ w l allowed column. omega (arith, page-short w l (leb→le w 64 allowed) column.below column.count) };
+    ghost need_is_bounded = { need-bounded };
 }

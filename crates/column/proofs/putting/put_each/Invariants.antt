@@ -1,10 +1,7 @@
-use Rattle.std.proofs.Common.{◌≡◌, map}
+use Rattle.std.proofs.Common.{map}
 use Rattle.column.proofs.Puts.{PutsOn}
 use Rattle.column.proofs.putting.put_each.Given as goal
 
 abbrev pub invariant-loop-i : goal.invariant-loop-i
 invariant-loop-i g l =
-    PutsOn (g.N.Code.Meaning.need (g.N.Encoder.width l.initial.encoder)) (g.N.Encoder.width l.initial.encoder) (g.N.Encoder.room l.initial.encoder)
-    (g.N.Encoder.accepted l.initial.encoder) (map g.E.Element.pattern l.values) l.i (g.N.Encoder.accepted l.encoder)
-    × (g.N.Encoder.width l.encoder ≡ g.N.Encoder.width l.initial.encoder)
-    × (g.N.Encoder.room l.encoder ≡ g.N.Encoder.room l.initial.encoder)
+    PutsOn g.N.Code.Meaning.need (g.N.Encoder.state l.initial.encoder) (map g.E.Element.pattern l.values) l.i (g.N.Encoder.state l.encoder)

@@ -1,6 +1,6 @@
-use Rattle.std.proofs.Common.{ℕ, ◌+◌, ◌*◌, Bool, cond, length, sym, ap, ◌∙◌, ap₂, add-zero, arith}
+use Rattle.std.proofs.Common.{◌≡◌, ℕ, false, rules, ◌+◌, ◌*◌, Bool, cond, length, sym, ap, ◌∙◌, ap₂, add-zero, arith}
 use Rattle.packed.specs.Vlq.{vlq}
-use Rattle.rle_encoder.specs.Encoding.{alike_with}
+use Rattle.rle_encoder.specs.Encoding.{alike_with, equals}
 use Rattle.rle_encoder.proofs.Added.{own}
 use Rattle.rle_encoder.proofs.Lengths.{stands-gather, stands-other, stands-pack}
 use Rattle.rle_encoder.proofs.RleEncoder.length_with.Goals as goal
@@ -10,12 +10,13 @@ returns-in-Repeating-false c =
     let e = c.args.self.now in
     let n = c.in-Repeating-false.count in
     let none = ap (λ (k : ℕ). length (vlq (2 * k))) (add-zero n) in
+    let other : equals e.progress.same c.args.pattern ≡ false = search rules in
     omega (
       arith,
       none,
       c.length_of_run-in-Repeating-false.ensures.value,
       c.value_bytes-bytes.ensures,
-      stands-other (own e) n c.args.pattern c.in-Repeating-false.is-0 (sym c.is_current.ensures ∙ c.in-Repeating-false.if-is_current-false),
+      stands-other (own e) n c.args.pattern c.in-Repeating-false.is-0 other,
     )
 
 pub returns-in-Gathering-default : goal.returns-in-Gathering-default

@@ -48,16 +48,9 @@ impl<'a> RleEncoder<'a> {
         ensures { Added self.old self.new (value ∷ []) }
     {
         match (self.progress.phase, self.progress.is_current(value)) {
-            (Phase::Repeating { count: _ }, true) => self.extend(1),
+            (Phase::Repeating { .. }, true) => self.extend(1),
             (Phase::Repeating { count }, false) => self.close_run(count, value),
-            (Phase::Gathering, same) => self.gather(value, same),
-            (
-                Phase::Packing {
-                    header: _,
-                    groups: _,
-                },
-                same,
-            ) => self.gather(value, same),
+            (Phase::Gathering | Phase::Packing { .. }, same) => self.gather(value, same),
         }
     }
 

@@ -58,13 +58,7 @@ impl<'a> RleEncoder<'a> {
             (Phase::Gathering, same) => {
                 written + 1 + either(self.progress.alike_with(same), bytes, width)
             }
-            (
-                Phase::Packing {
-                    header: _,
-                    groups: _,
-                },
-                same,
-            ) => {
+            (Phase::Packing { .. }, same) => {
                 let eighth = either(self.progress.alike_with(same), 1 + bytes, width);
                 written + either(self.progress.gathered.is_full(), eighth, width)
             }

@@ -19,7 +19,7 @@ pub use phase::Phase;
 use progress::Progress;
 
 /// A width and a buffer's length that were checked: only `RleEncoder::check` makes one, and `RleEncoder::new` uses it up.
-#[derive(Drop)]
+#[derive(Debug, PartialEq, Eq, Drop)]
 pub struct RlePass {
     width: usize,
     room: usize,

@@ -4,7 +4,7 @@ use borrow.Rule.Slice.PartMut.{put_mid}
 use lib.ListN.{length-replicate}
 use lib.Seq.{take-append-le, take-set-lt, set-append_left, set_at}
 use Rattle.std.specs.List.{AllByRecursion}
-use Rattle.std.proofs.ByRecursion.{All-get_or, All-push}
+use Rattle.std.proofs.ByRecursion.{All-push}
 use Rattle.std.proofs.lemmas.List.{append_assoc, length_push, take_more}
 use Rattle.std.proofs.lemmas.Slice.{put_mid-paste}
 use Rattle.std.proofs.lemmas.Bool.{cond_both, cond-true, cond-false, eq-eqb, eqb-true}
@@ -29,7 +29,8 @@ use Rattle.rle_encoder.proofs.Steps.{extended-shows, run-bounds, run-only, close
 pub own : (e : RleEncoder) → Stands e.progress e.out.now (accepted e)
 own e = kept-stands e.kept
 
-replicated : (w k v : ℕ) → v < 2 ^ w → AllByRecursion (λ y. y < 2 ^ w) (replicate k v)
+-- a value that is small enough, as often as one likes
+pub replicated : (w k v : ℕ) → v < 2 ^ w → AllByRecursion (λ y. y < 2 ^ w) (replicate k v)
 replicated w zero v small = tt
 replicated w (suc k) v small = (small, replicated w k v small)
 
@@ -56,10 +57,6 @@ one-step l x sh = sh
 -- seven values and one more are the group with that one at its end
 pub group-whole : (g : List ℕ) (x : ℕ) → length g ≡ 7 → set (padded g) 7 x ≡ g ++ x ∷ []
 group-whole g x seven = ap (λ n. set (g ++ replicate (8 - n) 0) 7 x) seven ∙ set_at g 0 [] x 7 seven
-
--- the place of each value
-pub each-below : (w : ℕ) (l : List ℕ) → AllByRecursion (λ v. v < 2 ^ w) l → (i : ℕ) → i < length l → get_or l i 0 < 2 ^ w
-each-below w l all i inside = All-get_or (λ v. v < 2 ^ w) l i 0 inside all
 
 pub length-group : (w : ℕ) (l : List ℕ) → length (group_bytes w l) ≡ w
 length-group w l = length_digits 256 w (number (2 ^ w) l)

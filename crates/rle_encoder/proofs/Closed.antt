@@ -1,5 +1,5 @@
 -- How a page ends: what comes behind the bytes that are written.
-use Rattle.std.proofs.Common.{◌≡◌, ℕ, zero, suc, ◌+◌, ◌-◌, ◌*◌, ◌/◌, ◌^◌, ◌<◌, ◌≤◌, true, false, eqb, List, [], ◌∷◌, ◌++◌, length, take, drop, set, replicate, Option, Some, None, sym, refl, ap, ◌∙◌, subst, ap₂, arith, length-append, length-set, length-take-le, take-take, take_at, set-set, pow_pos}
+use Rattle.std.proofs.Common.{◌≡◌, ℕ, suc, ◌+◌, ◌-◌, ◌*◌, ◌/◌, ◌^◌, ◌<◌, ◌≤◌, true, false, eqb, List, [], ◌∷◌, ◌++◌, length, take, drop, set, replicate, Option, Some, None, sym, refl, ap, ◌∙◌, subst, ap₂, arith, length-append, length-set, length-take-le, take-take, take_at, set-set, pow_pos}
 use borrow.Rule.Slice.PartMut.{put_mid}
 use lib.Seq.{take-append-le, take-set-lt}
 use Rattle.std.specs.List.{flat_map, AllByRecursion}
@@ -21,13 +21,9 @@ use Rattle.rle_encoder.specs.Finishing.{Ended, Finished}
 use Rattle.rle_encoder.specs.declared.phase.Phase.{Phase}
 use Rattle.rle_encoder.specs.declared.phase.Phase.TheVariants.{Gathering, Packing, Repeating}
 use Rattle.rle_encoder.specs.declared.progress.Progress.{Progress}
-use Rattle.rle_encoder.proofs.Added.{copied, front-gathering, front-packing, front-run, length-group}
+use Rattle.rle_encoder.proofs.Added.{copied, front-gathering, front-packing, front-run, length-group, replicated}
 use Rattle.rle_encoder.proofs.Keeping.{Shows, Stands, front_length, front_same, kept-front, kept-stands, stands-place, stands-sound}
 use Rattle.rle_encoder.proofs.Steps.{group-below, group-is, header-bounds, run-bounds, shared-all, shared-mixed}
-
-zeros-below : (w k : ℕ) → AllByRecursion (λ v. v < 2 ^ w) (replicate k 0)
-zeros-below w zero = tt
-zeros-below w (suc k) = (pow_pos w, zeros-below w k)
 
 -- ---- the page, by what is held
 
@@ -133,7 +129,7 @@ module _ {p : Progress} {out l : List ℕ} (st : Stands p out l) where
 
   pub padded-values : repeats p.phase ≡ false → AllByRecursion (λ v. v < 2 ^ p.width) (padded p.gathered.items)
   padded-values calm =
-      All-append (λ v. v < 2 ^ p.width) p.gathered.items (replicate (8 - length p.gathered.items) 0) (group-below p.width (length l) (state l) (stands-sound st) st.shows calm) (zeros-below p.width (8 - length p.gathered.items))
+      All-append (λ v. v < 2 ^ p.width) p.gathered.items (replicate (8 - length p.gathered.items) 0) (group-below p.width (length l) (state l) (stands-sound st) st.shows calm) (replicated p.width (8 - length p.gathered.items) 0 (pow_pos p.width))
 
   pub mixed-ends : p.phase ≡ Gathering → 0 < length p.gathered.items → p.same ≡ None
       → (p.written + 1 + p.width ≤ length out)

@@ -1,9 +1,9 @@
 -- What an encoder's fields show, and what follows for the list that it accepted.
-use Rattle.std.proofs.Common.{◌≡◌, ℕ, ◌+◌, ◌*◌, ◌^◌, ◌<◌, ◌≤◌, true, false, ltb, List, [], ◌∷◌, ◌++◌, length, take, set, Option, sym, refl, ap, ◌∙◌, subst, ap₂, ⊎_elim, arith, lit≤, length-append, length-set, length-take-le, set-set}
+use Rattle.std.proofs.Common.{◌≡◌, ℕ, ◌+◌, ◌*◌, ◌^◌, ◌<◌, ◌≤◌, true, false, ltb, List, [], ◌∷◌, ◌++◌, length, take, set, Option, sym, refl, ap, ◌∙◌, subst, ap₂, arith, lit≤, length-append, length-set, length-take-le, set-set}
 use lib.Seq.{take-set-le, take-set-lt}
 use Rattle.std.specs.List.{AllByRecursion}
 use Rattle.std.proofs.ByRecursion.{All-append}
-use Rattle.std.proofs.lemmas.Bool.{cases_Bool, both_ways, lt-ltb, ltb-true, cond-true, cond-false}
+use Rattle.std.proofs.lemmas.Bool.{lt-ltb, cond-true}
 use Rattle.arrayvec.specs.ArrayVec.{array_vec_len}
 use Rattle.column.specs.Putting.{Column}
 use Rattle.rle.specs.Runs.{State, steps, state, page, closing}

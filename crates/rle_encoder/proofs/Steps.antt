@@ -2,7 +2,7 @@
 use Rattle.std.proofs.Common.{◌≡◌, ℕ, suc, ◌+◌, ◌*◌, ◌/◌, ◌^◌, ◌<◌, ◌≤◌, true, false, cond, eqb, List, [], ◌∷◌, ◌++◌, length, set, replicate, Option, Some, None, sym, refl, ap, ◌∙◌, subst, ap₂, ⊎_elim, arith, length-append}
 use lib.ListN.{length-replicate}
 use Rattle.std.specs.List.{flat_map, AllByRecursion}
-use Rattle.std.proofs.lemmas.List.{append-nil, length_push}
+use Rattle.std.proofs.lemmas.List.{append-nil, length_push, nil_from_length}
 use Rattle.std.proofs.lemmas.Bool.{both_ways, cases_Bool, cases_eq, eq-eqb, ne_eqb, eqb-true, eqb-false, cond-true, cond-false, cond_both}
 use Rattle.rle.specs.Runs.{repeated, packed, State, gathering, packing, repeating, bytes_of, all_equal, head, steps, step}
 use Rattle.rle.specs.Writing.{pending}
@@ -76,10 +76,6 @@ calm-gathering e = ap repeats e
 calm-packing : {phase : Phase} {header groups : ℕ} → phase ≡ Packing header groups → repeats phase ≡ false
 calm-packing e = ap repeats e
 
-no-values : (l : List ℕ) → length l ≡ 0 → l ≡ []
-no-values [] e = refl
-no-values (x ∷ l) e = absurd (let z : suc (length l) ≡ 0 = e in omega arith)
-
 -- the value that all share is the last one
 begun-value : (g : List ℕ) (x : ℕ) → 0 < length g → all_equal (head (g ++ x ∷ [])) (g ++ x ∷ []) ≡ true → head (g ++ x ∷ []) ≡ x
 begun-value g x some all =
@@ -93,7 +89,7 @@ run-alone : {phase : Phase} (same : Option ℕ) {gathered : List ℕ} (n k v : �
 run-alone {phase} same {gathered} n k v is count held =
     let whole : replicate n (or_zero same) ++ gathered ≡ replicate k v = sym (ap (λ q. held_in q same gathered) is) ∙ held in
     let sum : length (replicate n (or_zero same)) + length gathered ≡ length (replicate k v) = sym (length-append (replicate n (or_zero same)) gathered) ∙ ap length whole in
-    no-values gathered (omega (arith, sum, length-replicate n (or_zero same), length-replicate k v))
+    nil_from_length gathered (omega (arith, sum, length-replicate n (or_zero same), length-replicate k v))
 
 module _ (w m : ℕ) {phase : Phase} {same : Option ℕ} {gathered : List ℕ} {front : List ℕ} where
   pub group-is : (s : State) → Shows w phase same gathered front s → repeats phase ≡ false → gathered ≡ pending s

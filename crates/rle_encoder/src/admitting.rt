@@ -1,5 +1,5 @@
 //! What an encoder refuses.
-ghost use Rattle.std.specs.Prelude.{◌≡◌, ◌+◌, ◌*◌, ◌^◌, ◌<◌, ◌≤◌, [], ◌∷◌, ◌++◌, length, if◌then◌else◌, nat_lt};
+ghost use Rattle.std.specs.Prelude.{◌≡◌, ◌+◌, ◌*◌, ◌^◌, ◌<◌, ◌≤◌, [], ◌∷◌, ◌++◌, length, nat_lt};
 ghost use Rattle.rle.specs.Runs.{page, value_bytes};
 ghost use Rattle.packed.specs.Vlq.{vlq};
 ghost use Rattle.rle_encoder.specs.Encoder.{Admits, AdmitsRun, accepted, more, width};
@@ -56,11 +56,18 @@ impl<'a> RleEncoder<'a> {
             (Phase::Repeating { count }, true) => self.length_of_run(count, 1),
             (Phase::Repeating { count }, false) => self.length_of_run(count, 0) + 1 + bytes,
             (Phase::Gathering, same) => {
-                written + 1 + either(self.progress.alike_with(same), bytes, width)
+                if self.progress.alike_with(same) {
+                    written + 1 + bytes
+                } else {
+                    written + 1 + width
+                }
             }
             (Phase::Packing { .. }, same) => {
-                let eighth = either(self.progress.alike_with(same), 1 + bytes, width);
-                written + either(self.progress.gathered.is_full(), eighth, width)
+                if self.progress.gathered.is_full() && self.progress.alike_with(same) {
+                    written + 1 + bytes
+                } else {
+                    written + width
+                }
             }
         }
     }
@@ -76,13 +83,6 @@ impl<'a> RleEncoder<'a> {
         let run = vlq_length(2 * (before + count) as u64) + value_bytes(self.progress.width);
         self.progress.written + run
     }
-}
-
-// One of two lengths.
-fn either(which: bool, yes: usize, no: usize) -> usize
-    ensures { result ≡ (if which then yes else no) }
-{
-    if which { yes } else { no }
 }
 
 // Whether a pattern has at most `width` bits.

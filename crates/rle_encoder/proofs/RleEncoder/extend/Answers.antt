@@ -9,9 +9,6 @@ pub overflow_add-self : goal.overflow_add-self
 overflow_add-self c =
     omega (arith, (run-facts c.args.self.now c.in-Repeating.before c.in-Repeating.is).1, c.requires.room.count, length-replicate c.args.count (or_zero c.args.self.now.progress.same))
 
-pub overflow_add-self-in-Repeating : goal.overflow_add-self-in-Repeating
-overflow_add-self-in-Repeating c = omega (arith, c.requires.room.count, length-replicate c.args.count (or_zero c.args.self.now.progress.same))
-
 pub invariant_of-self : goal.invariant_of-self
 invariant_of-self c = record { kept = stands-kept (extended c.args.self.now c.in-Repeating.before c.args.count c.in-Repeating.is c.requires.room) }
 

@@ -4,19 +4,18 @@ use borrow.Rule.Slice.PartMut.{put_mid}
 use lib.ListN.{length-replicate}
 use lib.Seq.{take-append-le, take-set-lt, set-append_left, set_at}
 use Rattle.std.specs.List.{AllByRecursion}
-use Rattle.std.proofs.ByRecursion.{All-push}
 use Rattle.std.proofs.lemmas.List.{append_assoc, length_push, take_more}
 use Rattle.std.proofs.lemmas.Slice.{put_mid-paste}
-use Rattle.std.proofs.lemmas.Bool.{cond_both, cond-true, cond-false, eq-eqb, eqb-true}
+use Rattle.std.proofs.lemmas.Bool.{cond_both, cond-true, cond-false, eq-eqb}
 use Rattle.packed.specs.Bytes.{overwrite}
 use Rattle.packed.proofs.Digits.{length_digits}
 use Rattle.packed.proofs.Overwrite.{length-overwrite, take-overwrite}
 use Rattle.packed.specs.Digits.{number}
-use Rattle.rle.specs.Runs.{State, gathering, packing, repeating, value_bytes, padded, steps, step, state}
+use Rattle.rle.specs.Runs.{value_bytes, padded, steps, step, state}
 use Rattle.rle.proofs.Writing.{length-repeated}
 use Rattle.rle_encoder.specs.Encoder.{Closing, RoomFor, Stored, Takes, accepted, more, repeats, room, width}
-use Rattle.rle_encoder.specs.Encoding.{Kept, accepted_of, collected, equals, front_of, group_bytes, group_with, grouped, joins, phase_of, run_bytes, same_of}
-use Rattle.rle_encoder.specs.Extending.{or_zero, repeats_in}
+use Rattle.rle_encoder.specs.Encoding.{Kept, accepted_of, collected, equals, front_of, group_bytes, group_with, grouped, joins, run_bytes}
+use Rattle.rle_encoder.specs.Extending.{or_zero}
 use Rattle.rle_encoder.specs.declared.RleEncoder.{RleEncoder}
 use Rattle.rle_encoder.specs.declared.phase.Phase.{Phase}
 use Rattle.rle_encoder.specs.declared.phase.Phase.TheVariants.{Gathering, Packing, Repeating}
@@ -137,10 +136,6 @@ module _ (e : RleEncoder) where
           (subst (λ y. Shows (width e) (Repeating 8) (Some x) [] y (step (state (accepted e)) x)) (sym closing.front_is)
           (begun-shows (width e) (length (accepted e)) x (state (accepted e)) (stands-sound st) st.shows calm seven equal)))
 
-      -- the group that they make
-      pub group-values : AllByRecursion (λ v. v < 2 ^ width e) (e.progress.gathered.items ++ x ∷ [])
-      group-values = All-push (λ v. v < 2 ^ width e) e.progress.gathered.items x (gathered-below calm) takes.below
-
       module _ (mixed : joins e.progress x ≡ false) where
         pub open-room : e.progress.phase ≡ Gathering → e.progress.written + 1 + width e ≤ length e.out.now
         open-room is = omega (arith, takes.room_for.fits, stands-gather (own e) x is, cond-false (joins e.progress x) (value_bytes (width e)) (width e) mixed)
@@ -242,26 +237,3 @@ kept-over {p} {out} at bytes k is behind fits =
 pub accepted-over : {p : Progress} {out : List ℕ} (at : ℕ) (bytes : List ℕ) {new : List ℕ} → Kept p out → new ≡ overwrite out at bytes → p.written ≤ at → at + length bytes ≤ length out → accepted_of p new ≡ accepted_of p out
 accepted-over {p} {out} at bytes k is behind fits =
     ap (accepted_of p) is ∙ accepted-front k (overwrite out at bytes) (length-overwrite out at bytes fits) (front-behind p.phase p.written at bytes out behind (omega (arith, fits)))
-
--- ---- whether a value repeats
-
-pub no_run : (e : RleEncoder) → ((n : ℕ) → e.progress.phase ≡ Repeating n → ⊥) → repeats_in (state (accepted e)) ≡ None
-no_run e none = go (state (accepted e)) (own e).shows.phase_is
-  where
-    go : (s : State) → e.progress.phase ≡ phase_of (width e) s → repeats_in s ≡ None
-    go (gathering rs g) is = refl
-    go (packing rs p g) is = refl
-    go (repeating rs n v) is = absurd (none n is)
-
-pub a-run : (e : RleEncoder) (n : ℕ) → e.progress.phase ≡ Repeating n → repeats_in (state (accepted e)) ≡ Some (or_zero e.progress.same)
-a-run e n is = go (state (accepted e)) (own e).shows.phase_is (own e).shows.same_is
-  where
-    go : (s : State) → e.progress.phase ≡ phase_of (width e) s → e.progress.same ≡ same_of s → repeats_in s ≡ Some (or_zero e.progress.same)
-    go (gathering rs g) shown same = let z : ◌≡◌ {A = ℕ} 0 1 = cc (is, shown) in absurd (omega arith)
-    go (packing rs p g) shown same = let z : ◌≡◌ {A = ℕ} 0 1 = cc (is, shown) in absurd (omega arith)
-    go (repeating rs k v) shown same = ap (λ o. Some (or_zero o)) (sym same)
-
--- a value that equals the current one
-pub is-current : (same : Option ℕ) (x : ℕ) → equals same x ≡ true → or_zero same ≡ x
-is-current None x is = let z : ◌≡◌ {A = ℕ} 0 1 = cc is in absurd (omega arith)
-is-current (Some v) x is = sym (eqb-true x v is)

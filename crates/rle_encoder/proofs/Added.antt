@@ -13,7 +13,7 @@ use Rattle.packed.proofs.Overwrite.{length-overwrite, take-overwrite}
 use Rattle.packed.specs.Digits.{number}
 use Rattle.rle.specs.Runs.{value_bytes, padded, steps, step, state}
 use Rattle.rle.proofs.Writing.{length-repeated}
-use Rattle.rle_encoder.specs.Encoder.{Closing, RoomFor, Stored, Takes, accepted, more, repeats, room, width}
+use Rattle.rle_encoder.specs.Encoder.{RoomFor, Takes, Unmoved, accepted, more, repeats, width}
 use Rattle.rle_encoder.specs.Encoding.{Kept, accepted_of, collected, equals, front_of, group_bytes, group_with, grouped, joins, run_bytes}
 use Rattle.rle_encoder.specs.Extending.{or_zero}
 use Rattle.rle_encoder.specs.declared.RleEncoder.{RleEncoder}
@@ -102,19 +102,19 @@ module _ (e : RleEncoder) where
     close-room n is other = omega (arith, takes.room_for.fits, stands-other (own e) n x is other, length-repeated (width e) n (or_zero e.progress.same))
 
     pub closed : (n : ℕ) {end : ℕ} {bytes : List ℕ} (f : RleEncoder) {q : Progress} → e.progress.phase ≡ Repeating n → equals e.progress.same x ≡ false
-        → bytes ≡ run_bytes e.progress n → end ≡ e.progress.written + length bytes → Stored e f e.progress.written bytes
+        → bytes ≡ run_bytes e.progress n → end ≡ e.progress.written + length bytes → f.out.now ≡ overwrite e.out.now e.progress.written bytes → Unmoved e f
         → q ≡ collected (record f.progress { written = end; phase = Gathering }) x true → Stands q f.out.now (accepted e ++ x ∷ [])
-    closed n {end} {bytes} f is other run long stored now =
+    closed n {end} {bytes} f is other run long wrote unmoved now =
         let st = own e in
         let place = e.progress.written in
         let front : take end f.out.now ≡ front_of e.progress.phase place e.out.now ++ run_bytes e.progress n =
         ap (λ k. take k f.out.now) long
-        ∙ front-more e.out.now f.out.now place (length bytes) bytes st.inside stored.buffer_is refl
+        ∙ front-more e.out.now f.out.now place (length bytes) bytes st.inside wrote refl
         ∙ ap₂ ◌++◌ (sym (front-run e.progress.written e.out.now is)) run in
         let one : length (e.progress.gathered.items ++ x ∷ []) ≡ 1 = ap (λ l. length (l ++ x ∷ [])) (only-run n is) in
-        subst (λ p. Stands p f.out.now (accepted e ++ x ∷ [])) (sym (now ∙ ap (λ p. collected (record p { written = end; phase = Gathering }) x true) stored.progress_is))
+        subst (λ p. Stands p f.out.now (accepted e ++ x ∷ [])) (sym (now ∙ ap (λ p. collected (record p { written = end; phase = Gathering }) x true) unmoved.progress_is))
         (next (collected (record e.progress { written = end; phase = Gathering }) x true) f.out.now refl refl
-        (omega (arith, close-room n is other, ap length run, stored.room_is)) (omega (arith, one)) stored.room_is
+        (omega (arith, close-room n is other, ap length run, unmoved.room_is)) (omega (arith, one)) unmoved.room_is
         (closed-shows (width e) (length (accepted e)) n x (state (accepted e)) is other st.shows front))
 
     pub collected-one : (alike : Bool) {q : Progress} → repeats e.progress.phase ≡ false → length e.progress.gathered.items < 7 → alike ≡ joins e.progress x
@@ -128,21 +128,21 @@ module _ (e : RleEncoder) where
         (collected-shows (width e) (length (accepted e)) x (state (accepted e)) (stands-sound st) st.shows calm less)))
 
     module _ (calm : repeats e.progress.phase ≡ false) (seven : length e.progress.gathered.items ≡ 7) where
-      pub begun : (f : RleEncoder) {q : Progress} → joins e.progress x ≡ true → Closing e f → q ≡ grouped f.progress (Repeating 8) (Some x) → Stands q f.out.now (accepted e ++ x ∷ [])
-      begun f equal closing now =
+      pub begun : (f : RleEncoder) {q : Progress} → joins e.progress x ≡ true → take e.progress.written f.out.now ≡ front_of e.progress.phase e.progress.written e.out.now → Unmoved e f → q ≡ grouped f.progress (Repeating 8) (Some x) → Stands q f.out.now (accepted e ++ x ∷ [])
+      begun f equal front unmoved now =
           let st = own e in
-          subst (λ p. Stands p f.out.now (accepted e ++ x ∷ [])) (sym (now ∙ ap (λ p. grouped p (Repeating 8) (Some x)) closing.progress_is))
-          (next (grouped e.progress (Repeating 8) (Some x)) f.out.now refl refl (omega (arith, st.inside, closing.room_is)) (lit≤ tt) closing.room_is
-          (subst (λ y. Shows (width e) (Repeating 8) (Some x) [] y (step (state (accepted e)) x)) (sym closing.front_is)
+          subst (λ p. Stands p f.out.now (accepted e ++ x ∷ [])) (sym (now ∙ ap (λ p. grouped p (Repeating 8) (Some x)) unmoved.progress_is))
+          (next (grouped e.progress (Repeating 8) (Some x)) f.out.now refl refl (omega (arith, st.inside, unmoved.room_is)) (lit≤ tt) unmoved.room_is
+          (subst (λ y. Shows (width e) (Repeating 8) (Some x) [] y (step (state (accepted e)) x)) (sym front)
           (begun-shows (width e) (length (accepted e)) x (state (accepted e)) (stands-sound st) st.shows calm seven equal)))
 
       module _ (mixed : joins e.progress x ≡ false) where
         pub open-room : e.progress.phase ≡ Gathering → e.progress.written + 1 + width e ≤ length e.out.now
         open-room is = omega (arith, takes.room_for.fits, stands-gather (own e) x is, cond-false (joins e.progress x) (value_bytes (width e)) (width e) mixed)
 
-        pub opened : {bytes : List ℕ} {end : ℕ} (f : RleEncoder) {q : Progress} → e.progress.phase ≡ Gathering → bytes ≡ group_with e.progress x → end ≡ e.progress.written + 1 + length bytes → Stored e f (e.progress.written + 1) bytes
+        pub opened : {bytes : List ℕ} {end : ℕ} (f : RleEncoder) {q : Progress} → e.progress.phase ≡ Gathering → bytes ≡ group_with e.progress x → end ≡ e.progress.written + 1 + length bytes → f.out.now ≡ overwrite e.out.now (e.progress.written + 1) bytes → Unmoved e f
             → q ≡ grouped (record f.progress { written = end }) (Packing e.progress.written 1) None → Stands q f.out.now (accepted e ++ x ∷ [])
-        opened {bytes} f is group count stored now =
+        opened {bytes} f is group count wrote unmoved now =
             let st = own e in
             let place = e.progress.written in
             let long : length bytes ≡ width e = ap length group ∙ length-group (width e) (e.progress.gathered.items ++ x ∷ []) in
@@ -151,15 +151,15 @@ module _ (e : RleEncoder) where
             let byte = get_or e.out.now place 0 in
             let front : set (take (place + 1 + width e) f.out.now) place 3 ≡ front_of e.progress.phase place e.out.now ++ 3 ∷ group_with e.progress x =
             ap (λ l. set l place 3)
-            (front-more e.out.now f.out.now (place + 1) (width e) bytes (omega arith) stored.buffer_is long
+            (front-more e.out.now f.out.now (place + 1) (width e) bytes (omega arith) wrote long
             ∙ ap (λ l. l ++ bytes) (take_more e.out.now place 0 (omega arith))
             ∙ append_assoc (take place e.out.now) (byte ∷ []) bytes)
             ∙ set_at (take place e.out.now) byte bytes 3 place before
             ∙ ap₂ (λ a b. a ++ 3 ∷ b) (sym (front-gathering place e.out.now is)) group in
             let at : length (front_of e.progress.phase place e.out.now) ≡ place = front_length e.progress.phase place e.out.now st.inside in
-            subst (λ p. Stands p f.out.now (accepted e ++ x ∷ [])) (sym (now ∙ ap₂ (λ p k. grouped (record p { written = k }) (Packing place 1) None) stored.progress_is (count ∙ ap (λ k. place + 1 + k) long)))
+            subst (λ p. Stands p f.out.now (accepted e ++ x ∷ [])) (sym (now ∙ ap₂ (λ p k. grouped (record p { written = k }) (Packing place 1) None) unmoved.progress_is (count ∙ ap (λ k. place + 1 + k) long)))
             (next (grouped (record e.progress { written = place + 1 + width e }) (Packing place 1) None) f.out.now refl refl
-            (omega (arith, stored.room_is)) (lit≤ tt) stored.room_is
+            (omega (arith, unmoved.room_is)) (lit≤ tt) unmoved.room_is
             (subst (λ h. Shows (width e) (Packing h 1) None [] (set (take (place + 1 + width e) f.out.now) place 3) (step (state (accepted e)) x)) at
             (opened-shows (width e) (length (accepted e)) x (state (accepted e)) (stands-sound st) st.shows is seven mixed front)))
 
@@ -174,21 +174,21 @@ module _ (e : RleEncoder) where
                 cond-false (joins e.progress x) (1 + value_bytes (width e)) (width e) mixed,
               )
 
-          pub grown : {bytes : List ℕ} {end : ℕ} (f : RleEncoder) {q : Progress} → bytes ≡ group_with e.progress x → end ≡ e.progress.written + length bytes → Stored e f e.progress.written bytes
+          pub grown : {bytes : List ℕ} {end : ℕ} (f : RleEncoder) {q : Progress} → bytes ≡ group_with e.progress x → end ≡ e.progress.written + length bytes → f.out.now ≡ overwrite e.out.now e.progress.written bytes → Unmoved e f
               → {byte : ℕ} → byte ≡ 2 * (groups + 1) + 1 → {phase : Phase} → phase ≡ cond (eqb (groups + 1) 63) Gathering (Packing header (groups + 1))
               → q ≡ grouped (record f.progress { written = end }) phase None → Stands q (set f.out.now header byte) (accepted e ++ x ∷ [])
-          grown {bytes} f group count stored {byte} byte-is {phase} phase_is now =
+          grown {bytes} f group count wrote unmoved {byte} byte-is {phase} phase_is now =
               let st = own e in
               let place = e.progress.written in
               let whole = place + width e in
               let later = 2 * (groups + 1) + 1 in
               let early : header < place = (header-inside header groups is).0 in
               let long : length bytes ≡ width e = ap length group ∙ length-group (width e) (e.progress.gathered.items ++ x ∷ []) in
-              let size : length (set f.out.now header byte) ≡ length e.out.now = length-set f.out.now header byte ∙ stored.room_is in
+              let size : length (set f.out.now header byte) ≡ length e.out.now = length-set f.out.now header byte ∙ unmoved.room_is in
               let before : length (take place e.out.now) ≡ place = length-take-le place e.out.now st.inside in
               let joined : take whole (set f.out.now header byte) ≡ set (take place e.out.now) header later ++ group_with e.progress x =
               take-set-lt whole f.out.now header byte (omega arith)
-              ∙ ap₂ (λ l b. set l header b) (front-more e.out.now f.out.now place (width e) bytes st.inside stored.buffer_is long) byte-is
+              ∙ ap₂ (λ l b. set l header b) (front-more e.out.now f.out.now place (width e) bytes st.inside wrote long) byte-is
               ∙ set-append_left (take place e.out.now) bytes header later (omega arith)
               ∙ ap (λ b. set (take place e.out.now) header later ++ b) group in
               let own-front : set (front_of e.progress.phase place e.out.now) header later ≡ set (take place e.out.now) header later =
@@ -203,7 +203,7 @@ module _ (e : RleEncoder) where
               ∙ sym (take-set-lt whole f.out.now header byte (omega arith))) in
               let front : front_of phase whole (set f.out.now header byte) ≡ set (front_of e.progress.phase place e.out.now) header later ++ group_with e.progress x =
               again phase phase_is ∙ joined ∙ ap (λ l. l ++ group_with e.progress x) (sym own-front) in
-              subst (λ p. Stands p (set f.out.now header byte) (accepted e ++ x ∷ [])) (sym (now ∙ ap₂ (λ p k. grouped (record p { written = k }) phase None) stored.progress_is (count ∙ ap (λ k. place + k) long)))
+              subst (λ p. Stands p (set f.out.now header byte) (accepted e ++ x ∷ [])) (sym (now ∙ ap₂ (λ p k. grouped (record p { written = k }) phase None) unmoved.progress_is (count ∙ ap (λ k. place + k) long)))
               (next (grouped (record e.progress { written = whole }) phase None) (set f.out.now header byte) refl refl
               (omega (arith, grow-room, size)) (lit≤ tt) size
               (subst (λ q. Shows (width e) q None [] (front_of phase whole (set f.out.now header byte)) (step (state (accepted e)) x)) (sym phase_is)

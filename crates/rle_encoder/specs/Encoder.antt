@@ -1,11 +1,10 @@
 -- What an encoder has accepted, and what it refuses.
-use Rattle.std.specs.Prelude.{◌≡◌, ℕ, ◌+◌, ◌^◌, ◌<◌, ◌≤◌, Bool, true, false, List, [], ◌∷◌, ◌++◌, length, take, replicate, Some, None, Ok, Err, Option, Result}
-use Rattle.packed.specs.Bytes.{overwrite}
+use Rattle.std.specs.Prelude.{◌≡◌, ℕ, ◌+◌, ◌^◌, ◌<◌, ◌≤◌, Bool, true, false, List, [], ◌∷◌, ◌++◌, length, replicate, Some, None, Ok, Err, Option, Result}
 use Rattle.column.specs.Putting.{unput}
 use Rattle.column.specs.States.{EncoderState}
 use Rattle.column.specs.declared.Refusal.{Refusal}
 use Rattle.rle.specs.Runs.{state, page}
-use Rattle.rle_encoder.specs.Encoding.{accepted_of, front_of}
+use Rattle.rle_encoder.specs.Encoding.{accepted_of}
 use Rattle.rle_encoder.specs.Extending.{or_zero, repeats_in, unextended}
 use Rattle.rle_encoder.specs.declared.RleEncoder.{RleEncoder}
 use Rattle.rle_encoder.specs.declared.phase.Phase.{Phase}
@@ -81,18 +80,9 @@ pub record Added (before after : RleEncoder) (vs : List ℕ) : Type 0 where
   pub room_is : room after ≡ room before
   pub lent_is : after.out.ghost_name ≡ before.out.ghost_name
 
--- After bytes were stored behind those that are written.
-pub record Stored (before after : RleEncoder) (at : ℕ) (bytes : List ℕ) : Type 0 where
-  pub buffer_is : after.out.now ≡ overwrite before.out.now at bytes
+-- After a write to the buffer that changes nothing of what an encoder holds and has accepted.
+pub record Unmoved (before after : RleEncoder) : Type 0 where
   pub progress_is : after.progress ≡ before.progress
-  pub room_is : room after ≡ room before
   pub accepted_is : accepted after ≡ accepted before
-  pub lent_is : after.out.ghost_name ≡ before.out.ghost_name
-
--- After the header of an open packed run was written: the buffer has all bytes that are written.
-pub record Closing (before after : RleEncoder) : Type 0 where
-  pub front_is : take before.progress.written after.out.now ≡ front_of before.progress.phase before.progress.written before.out.now
-  pub progress_is : after.progress ≡ before.progress
   pub room_is : room after ≡ room before
-  pub accepted_is : accepted after ≡ accepted before
   pub lent_is : after.out.ghost_name ≡ before.out.ghost_name

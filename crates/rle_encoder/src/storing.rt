@@ -1,7 +1,8 @@
 //! Writing to an encoder's buffer.
 ghost use Rattle.std.specs.Prelude.{◌≡◌, ◌+◌, ◌≤◌, length, take};
 ghost use Rattle.packed.specs.Bytes.{overwrite};
-ghost use Rattle.rle_encoder.specs.Encoder.{Closing, Stored, room};
+ghost use Rattle.rle_encoder.specs.Encoder.{Unmoved, room};
+ghost use Rattle.rle_encoder.specs.Encoding.{front_of};
 
 use crate::adding::header_of;
 use crate::{Phase, RleEncoder};
@@ -11,15 +12,17 @@ impl<'a> RleEncoder<'a> {
     pub(crate) fn store(&mut self, at: usize, bytes: &[u8]) -> usize
         requires behind { self.old.progress.written ≤ at }
         requires fits { at + length bytes.now ≤ room self.old }
-        ensures stored { Stored self.old self.new at bytes.now }
+        ensures bytes { self.new.out.now ≡ overwrite self.old.out.now at bytes.now }
+        ensures unmoved { Unmoved self.old self.new }
         ensures end { result ≡ at + length bytes.now }
     {
         write_bytes(self.out, at, bytes)
     }
 
-    // The header of a packed run that is open, which ends here.
+    // The header of a packed run that is open, which ends here: the buffer then has all bytes that are written.
     pub(crate) fn write_header(&mut self)
-        ensures { Closing self.old self.new }
+        ensures front { take self.old.progress.written self.new.out.now ≡ front_of self.old.progress.phase self.old.progress.written self.old.out.now }
+        ensures unmoved { Unmoved self.old self.new }
     {
         if let Phase::Packing { header, groups } = self.progress.phase {
             self.out[header] = header_of(groups);

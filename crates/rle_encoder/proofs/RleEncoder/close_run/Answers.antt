@@ -18,7 +18,7 @@ store-self-requires-clause-fits c =
 
 pub collect-requires-clause-few : goal.collect-requires-clause-few
 collect-requires-clause-few c =
-    omega (arith, ap length (ap (λ p. p.gathered.items) c.store-self.ensures.stored.progress_is ∙ only-run c.args.self.now c.args.count c.requires.run))
+    omega (arith, ap length (ap (λ p. p.gathered.items) c.store-self.ensures.unmoved.progress_is ∙ only-run c.args.self.now c.args.count c.requires.run))
 
 pub invariant_of-self : goal.invariant_of-self
 invariant_of-self c =
@@ -27,7 +27,7 @@ invariant_of-self c =
       kept = stands-kept
           (closed e c.args.value c.requires.takes c.args.count c.store-self.new.self c.requires.run c.requires.other
           (c.as_slice.ensures.value ∙ c.repeated_bytes-run.ensures ∙ ap (λ v. bytes_of e.progress.width (repeated c.args.count v)) c.current.ensures)
-          c.store-self.ensures.end c.store-self.ensures.stored c.collect.ensures);
+          c.store-self.ensures.end c.store-self.ensures.bytes c.store-self.ensures.unmoved c.collect.ensures);
     }
 
 pub returns : goal.returns
@@ -37,8 +37,8 @@ returns c =
       accepted_is = stands-accepted
           (closed e c.args.value c.requires.takes c.args.count c.store-self.new.self c.requires.run c.requires.other
           (c.as_slice.ensures.value ∙ c.repeated_bytes-run.ensures ∙ ap (λ v. bytes_of e.progress.width (repeated c.args.count v)) c.current.ensures)
-          c.store-self.ensures.end c.store-self.ensures.stored c.collect.ensures);
-      width_is = ap (λ p. p.width) c.collect.ensures ∙ ap (λ p. p.width) c.store-self.ensures.stored.progress_is;
-      room_is = c.store-self.ensures.stored.room_is;
-      lent_is = c.store-self.ensures.stored.lent_is;
+          c.store-self.ensures.end c.store-self.ensures.bytes c.store-self.ensures.unmoved c.collect.ensures);
+      width_is = ap (λ p. p.width) c.collect.ensures ∙ ap (λ p. p.width) c.store-self.ensures.unmoved.progress_is;
+      room_is = c.store-self.ensures.unmoved.room_is;
+      lent_is = c.store-self.ensures.unmoved.lent_is;
     }

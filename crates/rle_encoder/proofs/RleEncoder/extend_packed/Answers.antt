@@ -22,14 +22,14 @@ header_of-requires c = (header-inside c.args.self.now c.args.header c.args.group
 
 pub bounds-self-header : goal.bounds-self-header
 bounds-self-header c =
-    omega (arith, (header-inside c.args.self.now c.args.header c.args.groups c.requires.phase).0, c.args.self.now.kept.inside, c.store-end.ensures.stored.room_is)
+    omega (arith, (header-inside c.args.self.now c.args.header c.args.groups c.requires.phase).0, c.args.self.now.kept.inside, c.store-end.ensures.unmoved.room_is)
 
 pub invariant_of-self : goal.invariant_of-self
 invariant_of-self c =
     record {
       kept = stands-kept
           (grown c.args.self.now c.args.value c.requires.takes (ap repeats c.requires.phase) c.requires.eighth c.requires.mixed c.args.header c.args.groups c.requires.phase c.store-end.new.self
-          (c.as_slice.ensures.value ∙ c.group_with-group.ensures) c.store-end.ensures.end c.store-end.ensures.stored c.header_of.ensures c.open_run.ensures c.close_group.ensures);
+          (c.as_slice.ensures.value ∙ c.group_with-group.ensures) c.store-end.ensures.end c.store-end.ensures.bytes c.store-end.ensures.unmoved c.header_of.ensures c.open_run.ensures c.close_group.ensures);
     }
 
 pub returns : goal.returns
@@ -37,8 +37,8 @@ returns c =
     record {
       accepted_is = stands-accepted
           (grown c.args.self.now c.args.value c.requires.takes (ap repeats c.requires.phase) c.requires.eighth c.requires.mixed c.args.header c.args.groups c.requires.phase c.store-end.new.self
-          (c.as_slice.ensures.value ∙ c.group_with-group.ensures) c.store-end.ensures.end c.store-end.ensures.stored c.header_of.ensures c.open_run.ensures c.close_group.ensures);
-      width_is = ap (λ p. p.width) c.close_group.ensures ∙ ap (λ p. p.width) c.store-end.ensures.stored.progress_is;
-      room_is = length-set c.store-end.new.self.out.now c.args.header c.header_of.result ∙ c.store-end.ensures.stored.room_is;
-      lent_is = c.store-end.ensures.stored.lent_is;
+          (c.as_slice.ensures.value ∙ c.group_with-group.ensures) c.store-end.ensures.end c.store-end.ensures.bytes c.store-end.ensures.unmoved c.header_of.ensures c.open_run.ensures c.close_group.ensures);
+      width_is = ap (λ p. p.width) c.close_group.ensures ∙ ap (λ p. p.width) c.store-end.ensures.unmoved.progress_is;
+      room_is = length-set c.store-end.new.self.out.now c.args.header c.header_of.result ∙ c.store-end.ensures.unmoved.room_is;
+      lent_is = c.store-end.ensures.unmoved.lent_is;
     }

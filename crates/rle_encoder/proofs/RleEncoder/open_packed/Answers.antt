@@ -19,7 +19,7 @@ invariant_of-self c =
     record {
       kept = stands-kept
           (opened c.args.self.now c.args.value c.requires.takes (ap repeats c.requires.phase) c.requires.eighth c.requires.mixed c.store-self.new.self c.requires.phase
-          (c.as_slice.ensures.value ∙ c.group_with-group.ensures) c.store-self.ensures.end c.store-self.ensures.stored c.close_group.ensures);
+          (c.as_slice.ensures.value ∙ c.group_with-group.ensures) c.store-self.ensures.end c.store-self.ensures.bytes c.store-self.ensures.unmoved c.close_group.ensures);
     }
 
 pub returns : goal.returns
@@ -27,8 +27,8 @@ returns c =
     record {
       accepted_is = stands-accepted
           (opened c.args.self.now c.args.value c.requires.takes (ap repeats c.requires.phase) c.requires.eighth c.requires.mixed c.store-self.new.self c.requires.phase
-          (c.as_slice.ensures.value ∙ c.group_with-group.ensures) c.store-self.ensures.end c.store-self.ensures.stored c.close_group.ensures);
-      width_is = ap (λ p. p.width) c.close_group.ensures ∙ ap (λ p. p.width) c.store-self.ensures.stored.progress_is;
-      room_is = c.store-self.ensures.stored.room_is;
-      lent_is = c.store-self.ensures.stored.lent_is;
+          (c.as_slice.ensures.value ∙ c.group_with-group.ensures) c.store-self.ensures.end c.store-self.ensures.bytes c.store-self.ensures.unmoved c.close_group.ensures);
+      width_is = ap (λ p. p.width) c.close_group.ensures ∙ ap (λ p. p.width) c.store-self.ensures.unmoved.progress_is;
+      room_is = c.store-self.ensures.unmoved.room_is;
+      lent_is = c.store-self.ensures.unmoved.lent_is;
     }

@@ -13,7 +13,7 @@ use Rattle.packed.proofs.Overwrite.{length-overwrite, take-overwrite}
 use Rattle.packed.specs.Digits.{number}
 use Rattle.rle.specs.Runs.{value_bytes, padded, steps, step, state}
 use Rattle.rle.proofs.Writing.{length-repeated}
-use Rattle.rle_encoder.specs.Encoder.{RoomFor, Takes, Unmoved, accepted, more, repeats, width}
+use Rattle.rle_encoder.specs.Encoder.{Fills, RoomFor, Takes, Unmoved, accepted, more, repeats, width}
 use Rattle.rle_encoder.specs.Encoding.{Kept, accepted_of, collected, equals, front_of, group_bytes, group_with, grouped, joins, run_bytes}
 use Rattle.rle_encoder.specs.Extending.{or_zero}
 use Rattle.rle_encoder.specs.declared.RleEncoder.{RleEncoder}
@@ -127,87 +127,87 @@ module _ (e : RleEncoder) where
         (subst (λ b. Shows (width e) e.progress.phase (cond b (Some x) None) (e.progress.gathered.items ++ x ∷ []) (front_of e.progress.phase e.progress.written e.out.now) (step (state (accepted e)) x)) (sym equal)
         (collected-shows (width e) (length (accepted e)) x (state (accepted e)) (stands-sound st) st.shows calm less)))
 
-    module _ (calm : repeats e.progress.phase ≡ false) (seven : length e.progress.gathered.items ≡ 7) where
-      pub begun : (f : RleEncoder) {q : Progress} → joins e.progress x ≡ true → take e.progress.written f.out.now ≡ front_of e.progress.phase e.progress.written e.out.now → Unmoved e f → q ≡ grouped f.progress (Repeating 8) (Some x) → Stands q f.out.now (accepted e ++ x ∷ [])
-      begun f equal front unmoved now =
+  -- ---- the eighth value of a group
+  pub begun : (x : ℕ) (f : RleEncoder) {q : Progress} → Fills e x true → take e.progress.written f.out.now ≡ front_of e.progress.phase e.progress.written e.out.now → Unmoved e f → q ≡ grouped f.progress (Repeating 8) (Some x) → Stands q f.out.now (accepted e ++ x ∷ [])
+  begun x f fills whole unmoved now =
+      let st = own e in
+      subst (λ p. Stands p f.out.now (accepted e ++ x ∷ [])) (sym (now ∙ ap (λ p. grouped p (Repeating 8) (Some x)) unmoved.progress_is))
+      (next x fills.takes (grouped e.progress (Repeating 8) (Some x)) f.out.now refl refl (omega (arith, st.inside, unmoved.room_is)) (lit≤ tt) unmoved.room_is
+      (subst (λ y. Shows (width e) (Repeating 8) (Some x) [] y (step (state (accepted e)) x)) (sym whole)
+      (begun-shows (width e) (length (accepted e)) x (state (accepted e)) (stands-sound st) st.shows fills.calm fills.eighth fills.joined)))
+
+  module _ (x : ℕ) (fills : Fills e x false) where
+    pub open-room : e.progress.phase ≡ Gathering → e.progress.written + 1 + width e ≤ length e.out.now
+    open-room is = omega (arith, fills.takes.room_for.fits, stands-gather (own e) x is, cond-false (joins e.progress x) (value_bytes (width e)) (width e) fills.joined)
+
+    pub opened : {bytes : List ℕ} {end : ℕ} (f : RleEncoder) {q : Progress} → e.progress.phase ≡ Gathering → bytes ≡ group_with e.progress x → end ≡ e.progress.written + 1 + length bytes → f.out.now ≡ overwrite e.out.now (e.progress.written + 1) bytes → Unmoved e f
+        → q ≡ grouped (record f.progress { written = end }) (Packing e.progress.written 1) None → Stands q f.out.now (accepted e ++ x ∷ [])
+    opened {bytes} f is group count wrote unmoved now =
+        let st = own e in
+        let place = e.progress.written in
+        let long : length bytes ≡ width e = ap length group ∙ length-group (width e) (e.progress.gathered.items ++ x ∷ []) in
+        let room_for = open-room is in
+        let before : length (take place e.out.now) ≡ place = length-take-le place e.out.now st.inside in
+        let byte = get_or e.out.now place 0 in
+        let front : set (take (place + 1 + width e) f.out.now) place 3 ≡ front_of e.progress.phase place e.out.now ++ 3 ∷ group_with e.progress x =
+        ap (λ l. set l place 3)
+        (front-more e.out.now f.out.now (place + 1) (width e) bytes (omega arith) wrote long
+        ∙ ap (λ l. l ++ bytes) (take_more e.out.now place 0 (omega arith))
+        ∙ append_assoc (take place e.out.now) (byte ∷ []) bytes)
+        ∙ set_at (take place e.out.now) byte bytes 3 place before
+        ∙ ap₂ (λ a b. a ++ 3 ∷ b) (sym (front-gathering place e.out.now is)) group in
+        let at : length (front_of e.progress.phase place e.out.now) ≡ place = front_length e.progress.phase place e.out.now st.inside in
+        subst (λ p. Stands p f.out.now (accepted e ++ x ∷ [])) (sym (now ∙ ap₂ (λ p k. grouped (record p { written = k }) (Packing place 1) None) unmoved.progress_is (count ∙ ap (λ k. place + 1 + k) long)))
+        (next x fills.takes (grouped (record e.progress { written = place + 1 + width e }) (Packing place 1) None) f.out.now refl refl
+        (omega (arith, unmoved.room_is)) (lit≤ tt) unmoved.room_is
+        (subst (λ h. Shows (width e) (Packing h 1) None [] (set (take (place + 1 + width e) f.out.now) place 3) (step (state (accepted e)) x)) at
+        (opened-shows (width e) (length (accepted e)) x (state (accepted e)) (stands-sound st) st.shows is fills.eighth fills.joined front)))
+
+    module _ (header groups : ℕ) (is : e.progress.phase ≡ Packing header groups) where
+      pub grow-room : e.progress.written + width e ≤ length e.out.now
+      grow-room =
+          omega (
+            arith,
+            fills.takes.room_for.fits,
+            stands-pack (own e) header groups x is,
+            cond-true (eqb (length e.progress.gathered.items) 7) (cond (joins e.progress x) (1 + value_bytes (width e)) (width e)) (width e) (eq-eqb (length e.progress.gathered.items) 7 fills.eighth),
+            cond-false (joins e.progress x) (1 + value_bytes (width e)) (width e) fills.joined,
+          )
+
+      pub grown : {bytes : List ℕ} {end : ℕ} (f : RleEncoder) {q : Progress} → bytes ≡ group_with e.progress x → end ≡ e.progress.written + length bytes → f.out.now ≡ overwrite e.out.now e.progress.written bytes → Unmoved e f
+          → {byte : ℕ} → byte ≡ 2 * (groups + 1) + 1 → {phase : Phase} → phase ≡ cond (eqb (groups + 1) 63) Gathering (Packing header (groups + 1))
+          → q ≡ grouped (record f.progress { written = end }) phase None → Stands q (set f.out.now header byte) (accepted e ++ x ∷ [])
+      grown {bytes} f group count wrote unmoved {byte} byte-is {phase} phase_is now =
           let st = own e in
-          subst (λ p. Stands p f.out.now (accepted e ++ x ∷ [])) (sym (now ∙ ap (λ p. grouped p (Repeating 8) (Some x)) unmoved.progress_is))
-          (next (grouped e.progress (Repeating 8) (Some x)) f.out.now refl refl (omega (arith, st.inside, unmoved.room_is)) (lit≤ tt) unmoved.room_is
-          (subst (λ y. Shows (width e) (Repeating 8) (Some x) [] y (step (state (accepted e)) x)) (sym front)
-          (begun-shows (width e) (length (accepted e)) x (state (accepted e)) (stands-sound st) st.shows calm seven equal)))
-
-      module _ (mixed : joins e.progress x ≡ false) where
-        pub open-room : e.progress.phase ≡ Gathering → e.progress.written + 1 + width e ≤ length e.out.now
-        open-room is = omega (arith, takes.room_for.fits, stands-gather (own e) x is, cond-false (joins e.progress x) (value_bytes (width e)) (width e) mixed)
-
-        pub opened : {bytes : List ℕ} {end : ℕ} (f : RleEncoder) {q : Progress} → e.progress.phase ≡ Gathering → bytes ≡ group_with e.progress x → end ≡ e.progress.written + 1 + length bytes → f.out.now ≡ overwrite e.out.now (e.progress.written + 1) bytes → Unmoved e f
-            → q ≡ grouped (record f.progress { written = end }) (Packing e.progress.written 1) None → Stands q f.out.now (accepted e ++ x ∷ [])
-        opened {bytes} f is group count wrote unmoved now =
-            let st = own e in
-            let place = e.progress.written in
-            let long : length bytes ≡ width e = ap length group ∙ length-group (width e) (e.progress.gathered.items ++ x ∷ []) in
-            let room_for = open-room is in
-            let before : length (take place e.out.now) ≡ place = length-take-le place e.out.now st.inside in
-            let byte = get_or e.out.now place 0 in
-            let front : set (take (place + 1 + width e) f.out.now) place 3 ≡ front_of e.progress.phase place e.out.now ++ 3 ∷ group_with e.progress x =
-            ap (λ l. set l place 3)
-            (front-more e.out.now f.out.now (place + 1) (width e) bytes (omega arith) wrote long
-            ∙ ap (λ l. l ++ bytes) (take_more e.out.now place 0 (omega arith))
-            ∙ append_assoc (take place e.out.now) (byte ∷ []) bytes)
-            ∙ set_at (take place e.out.now) byte bytes 3 place before
-            ∙ ap₂ (λ a b. a ++ 3 ∷ b) (sym (front-gathering place e.out.now is)) group in
-            let at : length (front_of e.progress.phase place e.out.now) ≡ place = front_length e.progress.phase place e.out.now st.inside in
-            subst (λ p. Stands p f.out.now (accepted e ++ x ∷ [])) (sym (now ∙ ap₂ (λ p k. grouped (record p { written = k }) (Packing place 1) None) unmoved.progress_is (count ∙ ap (λ k. place + 1 + k) long)))
-            (next (grouped (record e.progress { written = place + 1 + width e }) (Packing place 1) None) f.out.now refl refl
-            (omega (arith, unmoved.room_is)) (lit≤ tt) unmoved.room_is
-            (subst (λ h. Shows (width e) (Packing h 1) None [] (set (take (place + 1 + width e) f.out.now) place 3) (step (state (accepted e)) x)) at
-            (opened-shows (width e) (length (accepted e)) x (state (accepted e)) (stands-sound st) st.shows is seven mixed front)))
-
-        module _ (header groups : ℕ) (is : e.progress.phase ≡ Packing header groups) where
-          pub grow-room : e.progress.written + width e ≤ length e.out.now
-          grow-room =
-              omega (
-                arith,
-                takes.room_for.fits,
-                stands-pack (own e) header groups x is,
-                cond-true (eqb (length e.progress.gathered.items) 7) (cond (joins e.progress x) (1 + value_bytes (width e)) (width e)) (width e) (eq-eqb (length e.progress.gathered.items) 7 seven),
-                cond-false (joins e.progress x) (1 + value_bytes (width e)) (width e) mixed,
-              )
-
-          pub grown : {bytes : List ℕ} {end : ℕ} (f : RleEncoder) {q : Progress} → bytes ≡ group_with e.progress x → end ≡ e.progress.written + length bytes → f.out.now ≡ overwrite e.out.now e.progress.written bytes → Unmoved e f
-              → {byte : ℕ} → byte ≡ 2 * (groups + 1) + 1 → {phase : Phase} → phase ≡ cond (eqb (groups + 1) 63) Gathering (Packing header (groups + 1))
-              → q ≡ grouped (record f.progress { written = end }) phase None → Stands q (set f.out.now header byte) (accepted e ++ x ∷ [])
-          grown {bytes} f group count wrote unmoved {byte} byte-is {phase} phase_is now =
-              let st = own e in
-              let place = e.progress.written in
-              let whole = place + width e in
-              let later = 2 * (groups + 1) + 1 in
-              let early : header < place = (header-inside header groups is).0 in
-              let long : length bytes ≡ width e = ap length group ∙ length-group (width e) (e.progress.gathered.items ++ x ∷ []) in
-              let size : length (set f.out.now header byte) ≡ length e.out.now = length-set f.out.now header byte ∙ unmoved.room_is in
-              let before : length (take place e.out.now) ≡ place = length-take-le place e.out.now st.inside in
-              let joined : take whole (set f.out.now header byte) ≡ set (take place e.out.now) header later ++ group_with e.progress x =
-              take-set-lt whole f.out.now header byte (omega arith)
-              ∙ ap₂ (λ l b. set l header b) (front-more e.out.now f.out.now place (width e) bytes st.inside wrote long) byte-is
-              ∙ set-append_left (take place e.out.now) bytes header later (omega arith)
-              ∙ ap (λ b. set (take place e.out.now) header later ++ b) group in
-              let own-front : set (front_of e.progress.phase place e.out.now) header later ≡ set (take place e.out.now) header later =
-              ap (λ l. set l header later) (front-packing place e.out.now is) ∙ set-set (take place e.out.now) header (2 * groups + 1) later in
-              let again : (q : Phase) → q ≡ cond (eqb (groups + 1) 63) Gathering (Packing header (groups + 1)) → front_of q whole (set f.out.now header byte) ≡ take whole (set f.out.now header byte) =
-              λ q q-is. ap (λ y. front_of y whole (set f.out.now header byte)) q-is ∙ cond_both (eqb (groups + 1) 63) Gathering (Packing header (groups + 1)) (λ y. front_of y whole (set f.out.now header byte) ≡ take whole (set f.out.now header byte))
-              (λ full. refl)
-              (λ open_still.
-              ap (λ l. set l header later) (take-set-lt whole f.out.now header byte (omega arith))
-              ∙ set-set (take whole f.out.now) header byte later
-              ∙ ap (set (take whole f.out.now) header) (sym byte-is)
-              ∙ sym (take-set-lt whole f.out.now header byte (omega arith))) in
-              let front : front_of phase whole (set f.out.now header byte) ≡ set (front_of e.progress.phase place e.out.now) header later ++ group_with e.progress x =
-              again phase phase_is ∙ joined ∙ ap (λ l. l ++ group_with e.progress x) (sym own-front) in
-              subst (λ p. Stands p (set f.out.now header byte) (accepted e ++ x ∷ [])) (sym (now ∙ ap₂ (λ p k. grouped (record p { written = k }) phase None) unmoved.progress_is (count ∙ ap (λ k. place + k) long)))
-              (next (grouped (record e.progress { written = whole }) phase None) (set f.out.now header byte) refl refl
-              (omega (arith, grow-room, size)) (lit≤ tt) size
-              (subst (λ q. Shows (width e) q None [] (front_of phase whole (set f.out.now header byte)) (step (state (accepted e)) x)) (sym phase_is)
-              (grown-shows (width e) (length (accepted e)) x header groups (state (accepted e)) (stands-sound st) st.shows is seven mixed front)))
+          let place = e.progress.written in
+          let whole = place + width e in
+          let later = 2 * (groups + 1) + 1 in
+          let early : header < place = (header-inside header groups is).0 in
+          let long : length bytes ≡ width e = ap length group ∙ length-group (width e) (e.progress.gathered.items ++ x ∷ []) in
+          let size : length (set f.out.now header byte) ≡ length e.out.now = length-set f.out.now header byte ∙ unmoved.room_is in
+          let before : length (take place e.out.now) ≡ place = length-take-le place e.out.now st.inside in
+          let joined : take whole (set f.out.now header byte) ≡ set (take place e.out.now) header later ++ group_with e.progress x =
+          take-set-lt whole f.out.now header byte (omega arith)
+          ∙ ap₂ (λ l b. set l header b) (front-more e.out.now f.out.now place (width e) bytes st.inside wrote long) byte-is
+          ∙ set-append_left (take place e.out.now) bytes header later (omega arith)
+          ∙ ap (λ b. set (take place e.out.now) header later ++ b) group in
+          let own-front : set (front_of e.progress.phase place e.out.now) header later ≡ set (take place e.out.now) header later =
+          ap (λ l. set l header later) (front-packing place e.out.now is) ∙ set-set (take place e.out.now) header (2 * groups + 1) later in
+          let again : (q : Phase) → q ≡ cond (eqb (groups + 1) 63) Gathering (Packing header (groups + 1)) → front_of q whole (set f.out.now header byte) ≡ take whole (set f.out.now header byte) =
+          λ q q-is. ap (λ y. front_of y whole (set f.out.now header byte)) q-is ∙ cond_both (eqb (groups + 1) 63) Gathering (Packing header (groups + 1)) (λ y. front_of y whole (set f.out.now header byte) ≡ take whole (set f.out.now header byte))
+          (λ full. refl)
+          (λ open_still.
+          ap (λ l. set l header later) (take-set-lt whole f.out.now header byte (omega arith))
+          ∙ set-set (take whole f.out.now) header byte later
+          ∙ ap (set (take whole f.out.now) header) (sym byte-is)
+          ∙ sym (take-set-lt whole f.out.now header byte (omega arith))) in
+          let front : front_of phase whole (set f.out.now header byte) ≡ set (front_of e.progress.phase place e.out.now) header later ++ group_with e.progress x =
+          again phase phase_is ∙ joined ∙ ap (λ l. l ++ group_with e.progress x) (sym own-front) in
+          subst (λ p. Stands p (set f.out.now header byte) (accepted e ++ x ∷ [])) (sym (now ∙ ap₂ (λ p k. grouped (record p { written = k }) phase None) unmoved.progress_is (count ∙ ap (λ k. place + k) long)))
+          (next x fills.takes (grouped (record e.progress { written = whole }) phase None) (set f.out.now header byte) refl refl
+          (omega (arith, grow-room, size)) (lit≤ tt) size
+          (subst (λ q. Shows (width e) q None [] (front_of phase whole (set f.out.now header byte)) (step (state (accepted e)) x)) (sym phase_is)
+          (grown-shows (width e) (length (accepted e)) x header groups (state (accepted e)) (stands-sound st) st.shows is fills.eighth fills.joined front)))
 
 -- ---- bytes behind those that are written
 

@@ -1,10 +1,11 @@
 -- What an encoder has accepted, and what it refuses.
 use Rattle.std.specs.Prelude.{◌≡◌, ℕ, ◌+◌, ◌^◌, ◌<◌, ◌≤◌, Bool, true, false, List, [], ◌∷◌, ◌++◌, length, replicate, Some, None, Ok, Err, Option, Result}
+use Rattle.arrayvec.specs.ArrayVec.{array_vec_len}
 use Rattle.column.specs.Putting.{unput}
 use Rattle.column.specs.States.{EncoderState}
 use Rattle.column.specs.declared.Refusal.{Refusal}
 use Rattle.rle.specs.Runs.{state, page}
-use Rattle.rle_encoder.specs.Encoding.{accepted_of}
+use Rattle.rle_encoder.specs.Encoding.{accepted_of, front_of, joins}
 use Rattle.rle_encoder.specs.Extending.{or_zero, repeats_in, unextended}
 use Rattle.rle_encoder.specs.declared.RleEncoder.{RleEncoder}
 use Rattle.rle_encoder.specs.declared.phase.Phase.{Phase}
@@ -13,6 +14,10 @@ use Rattle.rle_encoder.specs.declared.phase.Phase.TheVariants.{Gathering, Packin
 -- The list of the patterns that an encoder accepted.
 abbrev pub accepted : RleEncoder → List ℕ
 accepted e = accepted_of e.progress e.out.now
+
+-- The bytes that are written.
+abbrev pub front : RleEncoder → List ℕ
+front e = front_of e.progress.phase e.progress.written e.out.now
 
 -- How many bits its values have at most.
 abbrev pub width : RleEncoder → ℕ
@@ -61,6 +66,13 @@ pub record RoomFor (e : RleEncoder) (vs : List ℕ) : Type 0 where
 pub record Takes (e : RleEncoder) (x : ℕ) : Type 0 where
   pub below : x < 2 ^ width e
   pub room_for : RoomFor e (x ∷ [])
+
+-- It is the eighth of a group, whose values are then all equal or not.
+pub record Fills (e : RleEncoder) (x : ℕ) (alike : Bool) : Type 0 where
+  pub takes : Takes e x
+  pub calm : repeats e.progress.phase ≡ false
+  pub eighth : array_vec_len e.progress.gathered ≡ 7
+  pub joined : joins e.progress x ≡ alike
 
 -- A pattern is refused, or it can be added.
 abbrev pub Admits : RleEncoder → ℕ → Result (Unit {0}) Refusal → Type 0

@@ -3,7 +3,7 @@ ghost use Rattle.std.specs.Prelude.{◌≡◌, ◌+◌, ◌*◌, ◌^◌, ◌<�
 ghost use Rattle.arrayvec.specs.ArrayVec.{array_vec_len};
 ghost use Rattle.column.specs.Putting.{accepting, answered};
 ghost use Rattle.column.specs.declared.Refusal.{Refusal};
-ghost use Rattle.rle_encoder.specs.Encoder.{Added, RoomFor, Takes, accepted, again, more, refusal, repeats, room, run_refusal, width};
+ghost use Rattle.rle_encoder.specs.Encoder.{Added, Fills, RoomFor, Takes, accepted, again, more, refusal, repeats, room, run_refusal, width};
 ghost use Rattle.rle_encoder.specs.Encoding.{equals, group_with, joins};
 ghost use Rattle.rle_encoder.specs.declared.phase.Phase.TheVariants.{Gathering, Packing, Repeating};
 
@@ -17,7 +17,8 @@ impl<'a> RleEncoder<'a> {
     /// Adds a value's pattern at the list's end. A refused value changes nothing.
     pub fn put<E: Element>(&mut self, v: E) -> Result<(), Refusal>
         ensures answer { result ≡ answered (refusal self.old (E.Element.pattern v)) }
-        ensures accepted { accepted self.new ≡ accepting (refusal self.old (E.Element.pattern v)) (accepted self.old) (E.Element.pattern v ∷ []) }
+        ensures accepted { accepted self.new
+            ≡ accepting (refusal self.old (E.Element.pattern v)) (accepted self.old) (E.Element.pattern v ∷ []) }
         ensures refused { (x : Refusal) → result ≡ Err x → self.new ≡ self.old }
         ensures width { width self.new ≡ width self.old }
         ensures room { room self.new ≡ room self.old }
@@ -32,7 +33,8 @@ impl<'a> RleEncoder<'a> {
     /// Adds the value that repeats `count` times more, as that many puts would. A refused call changes nothing.
     pub fn extend_run(&mut self, count: usize) -> Result<(), Refusal>
         ensures answer { result ≡ answered (run_refusal self.old count) }
-        ensures accepted { accepted self.new ≡ accepting (run_refusal self.old count) (accepted self.old) (again self.old count) }
+        ensures accepted { accepted self.new
+            ≡ accepting (run_refusal self.old count) (accepted self.old) (again self.old count) }
         ensures refused { (x : Refusal) → result ≡ Err x → self.new ≡ self.old }
         ensures width { width self.new ≡ width self.old }
         ensures room { room self.new ≡ room self.old }
@@ -111,10 +113,7 @@ impl<'a> RleEncoder<'a> {
 
     // The eighth of eight equal values. A packed run that is open ends with the group before.
     fn begin_run(&mut self, value: u64)
-        requires calm { repeats self.old.progress.phase ≡ false }
-        requires eighth { array_vec_len self.old.progress.gathered ≡ 7 }
-        requires alike { joins self.old.progress value ≡ true }
-        requires takes { Takes self.old value }
+        requires { Fills self.old value true }
         ensures { Added self.old self.new (value ∷ []) }
     {
         self.write_header();
@@ -124,10 +123,7 @@ impl<'a> RleEncoder<'a> {
 
     // The eighth of eight values that are packed.
     fn pack(&mut self, value: u64)
-        requires calm { repeats self.old.progress.phase ≡ false }
-        requires eighth { array_vec_len self.old.progress.gathered ≡ 7 }
-        requires mixed { joins self.old.progress value ≡ false }
-        requires takes { Takes self.old value }
+        requires { Fills self.old value false }
         ensures { Added self.old self.new (value ∷ []) }
     {
         if let Phase::Packing { header, groups } = self.progress.phase {
@@ -140,9 +136,7 @@ impl<'a> RleEncoder<'a> {
     // They begin a packed run: a byte before them is left for its header.
     fn open_packed(&mut self, value: u64)
         requires phase { self.old.progress.phase ≡ Gathering }
-        requires eighth { array_vec_len self.old.progress.gathered ≡ 7 }
-        requires mixed { joins self.old.progress value ≡ false }
-        requires takes { Takes self.old value }
+        requires fills { Fills self.old value false }
         ensures { Added self.old self.new (value ∷ []) }
     {
         let group = self.group_with(value);
@@ -155,9 +149,7 @@ impl<'a> RleEncoder<'a> {
     // They join the open packed run, which closes at 63 groups.
     fn extend_packed(&mut self, header: usize, groups: usize, value: u64)
         requires phase { self.old.progress.phase ≡ Packing header groups }
-        requires eighth { array_vec_len self.old.progress.gathered ≡ 7 }
-        requires mixed { joins self.old.progress value ≡ false }
-        requires takes { Takes self.old value }
+        requires fills { Fills self.old value false }
         ensures { Added self.old self.new (value ∷ []) }
     {
         let group = self.group_with(value);
@@ -170,9 +162,7 @@ impl<'a> RleEncoder<'a> {
 
     // The bytes of the seven collected values and one more as a packed group.
     fn group_with(&self, value: u64) -> ArrayVec<u8, 64>
-        requires calm { repeats self.now.progress.phase ≡ false }
-        requires eighth { array_vec_len self.now.progress.gathered ≡ 7 }
-        requires below { value < 2 ^ width self.now }
+        requires { Fills self.now value false }
         ensures { result.items ≡ group_with self.now.progress value }
     {
         let mut group = padded_group(self.progress.gathered.as_slice());

@@ -77,7 +77,8 @@ impl<'a> RleEncoder<'a> {
         requires run { self.now.progress.phase ≡ Repeating before }
         requires short { count ≤ 2147483647 }
         ensures run { result ≡ length (page (width self.now) (accepted self.now ++ more self.now count)) }
-        ensures value { result ≡ self.now.progress.written + length (vlq (2 * (before + count))) + value_bytes (width self.now) }
+        ensures value { result
+            ≡ self.now.progress.written + length (vlq (2 * (before + count))) + value_bytes (width self.now) }
         ensures small { result < 2 ^ 63 }
     {
         let run = vlq_length(2 * (before + count) as u64) + value_bytes(self.progress.width);

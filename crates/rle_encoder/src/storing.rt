@@ -1,8 +1,7 @@
 //! Writing to an encoder's buffer.
 ghost use Rattle.std.specs.Prelude.{◌≡◌, ◌+◌, ◌≤◌, length, take};
 ghost use Rattle.packed.specs.Bytes.{overwrite};
-ghost use Rattle.rle_encoder.specs.Encoder.{Unmoved, room};
-ghost use Rattle.rle_encoder.specs.Encoding.{front_of};
+ghost use Rattle.rle_encoder.specs.Encoder.{Unmoved, front, room};
 
 use crate::adding::header_of;
 use crate::{Phase, RleEncoder};
@@ -21,7 +20,7 @@ impl<'a> RleEncoder<'a> {
 
     // The header of a packed run that is open, which ends here: the buffer then has all bytes that are written.
     pub(crate) fn write_header(&mut self)
-        ensures front { take self.old.progress.written self.new.out.now ≡ front_of self.old.progress.phase self.old.progress.written self.old.out.now }
+        ensures front { take self.old.progress.written self.new.out.now ≡ front self.old }
         ensures unmoved { Unmoved self.old self.new }
     {
         if let Phase::Packing { header, groups } = self.progress.phase {

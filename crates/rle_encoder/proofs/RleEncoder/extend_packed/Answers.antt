@@ -1,5 +1,4 @@
 use Rattle.std.proofs.Common.{[], ◌∷◌, ◌++◌, length, ap, ◌∙◌, arith, length-set}
-use Rattle.rle_encoder.specs.Encoder.{repeats}
 use Rattle.rle_encoder.proofs.Added.{grow-room, grown, header-inside, length-group}
 use Rattle.rle_encoder.proofs.Keeping.{stands-accepted, stands-kept}
 use Rattle.rle_encoder.proofs.RleEncoder.extend_packed.Goals as goal
@@ -9,7 +8,7 @@ store-end-requires-clause-fits c =
     let e = c.args.self.now in
     omega (
       arith,
-      grow-room e c.args.value c.requires.takes (ap repeats c.requires.phase) c.requires.eighth c.requires.mixed c.args.header c.args.groups c.requires.phase,
+      grow-room e c.args.value c.requires.fills c.args.header c.args.groups c.requires.phase,
       ap length (c.as_slice.ensures.value ∙ c.group_with-group.ensures),
       length-group e.progress.width (e.progress.gathered.items ++ c.args.value ∷ []),
     )
@@ -28,7 +27,7 @@ pub invariant_of-self : goal.invariant_of-self
 invariant_of-self c =
     record {
       kept = stands-kept
-          (grown c.args.self.now c.args.value c.requires.takes (ap repeats c.requires.phase) c.requires.eighth c.requires.mixed c.args.header c.args.groups c.requires.phase c.store-end.new.self
+          (grown c.args.self.now c.args.value c.requires.fills c.args.header c.args.groups c.requires.phase c.store-end.new.self
           (c.as_slice.ensures.value ∙ c.group_with-group.ensures) c.store-end.ensures.end c.store-end.ensures.bytes c.store-end.ensures.unmoved c.header_of.ensures c.open_run.ensures c.close_group.ensures);
     }
 
@@ -36,7 +35,7 @@ pub returns : goal.returns
 returns c =
     record {
       accepted_is = stands-accepted
-          (grown c.args.self.now c.args.value c.requires.takes (ap repeats c.requires.phase) c.requires.eighth c.requires.mixed c.args.header c.args.groups c.requires.phase c.store-end.new.self
+          (grown c.args.self.now c.args.value c.requires.fills c.args.header c.args.groups c.requires.phase c.store-end.new.self
           (c.as_slice.ensures.value ∙ c.group_with-group.ensures) c.store-end.ensures.end c.store-end.ensures.bytes c.store-end.ensures.unmoved c.header_of.ensures c.open_run.ensures c.close_group.ensures);
       width_is = ap (λ p. p.width) c.close_group.ensures ∙ ap (λ p. p.width) c.store-end.ensures.unmoved.progress_is;
       room_is = length-set c.store-end.new.self.out.now c.args.header c.header_of.result ∙ c.store-end.ensures.unmoved.room_is;

@@ -11,7 +11,7 @@ group_bytes-requires-clause-fits c =
     let g = e.progress.gathered.items in
     let x = c.args.value in
     let whole = ap (λ l. set l 7 x) (c.padded_group-group.ensures ∙ ap padded c.as_slice.ensures.value) ∙ group-whole g x c.requires.eighth in
-    let all = All-push (λ v. v < 2 ^ e.progress.width) g x (gathered-below e c.requires.calm) c.requires.below in
+    let all = All-push (λ v. v < 2 ^ e.progress.width) g x (gathered-below e c.requires.calm) c.requires.takes.below in
     subst (λ l. (i : ℕ) → i < length l → get_or l i 0 < 2 ^ e.progress.width) (sym whole)
     (λ i inside. All-get_or (λ v. v < 2 ^ e.progress.width) (g ++ x ∷ []) i 0 inside all)
 

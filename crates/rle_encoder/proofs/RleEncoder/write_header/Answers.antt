@@ -1,0 +1,36 @@
+use Rattle.std.proofs.Common.{sym, refl, ap, ◌∙◌, set, take, arith, length-set}
+use lib.Seq.{take-set-lt}
+use Rattle.rle_encoder.proofs.Added.{front-packing, header-inside}
+use Rattle.rle_encoder.proofs.Keeping.{accepted-front, front-under, kept-front}
+use Rattle.rle_encoder.proofs.RleEncoder.write_header.Goals as goal
+
+pub header_of-requires : goal.header_of-requires
+header_of-requires c = omega (arith, (header-inside c.args.self.now c.in-Packing.header c.in-Packing.groups c.in-Packing.is).1)
+
+pub bounds-self-header : goal.bounds-self-header
+bounds-self-header c = omega (arith, (header-inside c.args.self.now c.in-Packing.header c.in-Packing.groups c.in-Packing.is).0, c.args.self.now.kept.inside)
+
+pub invariant_of-self : goal.invariant_of-self
+invariant_of-self c =
+    let e = c.args.self.now in
+    let early = (header-inside e c.in-Packing.header c.in-Packing.groups c.in-Packing.is).0 in
+    record {
+      kept = kept-front e.kept (set e.out.now c.in-Packing.header c.header_of.result) (length-set e.out.now c.in-Packing.header c.header_of.result)
+          (front-under e.progress.written c.header_of.result e.out.now c.in-Packing.is early);
+    }
+
+pub returns-in-Packing : goal.returns-in-Packing
+returns-in-Packing c =
+    let e = c.args.self.now in
+    let byte = c.header_of.result in
+    let early = (header-inside e c.in-Packing.header c.in-Packing.groups c.in-Packing.is).0 in
+    let size = length-set e.out.now c.in-Packing.header byte in
+    record {
+      front_is = take-set-lt e.progress.written e.out.now c.in-Packing.header byte early
+          ∙ ap (set (take e.progress.written e.out.now) c.in-Packing.header) c.header_of.ensures
+          ∙ sym (front-packing e.progress.written e.out.now c.in-Packing.is);
+      progress_is = refl;
+      room_is = size;
+      accepted_is = accepted-front e.kept (set e.out.now c.in-Packing.header byte) size (front-under e.progress.written byte e.out.now c.in-Packing.is early);
+      lent_is = refl;
+    }

@@ -1,10 +1,11 @@
 -- How many values are left, and that they are as many as single reads give.
-use Rattle.std.proofs.Common.{◌≡◌, ℕ, zero, suc, ◌+◌, ◌-◌, ◌*◌, ◌/◌, ◌<◌, ◌≤◌, min, eqb, leb, List, length, sym, refl, ◌∙◌, subst, ap₂, ⊎_elim, suc-le-suc, zero-le, le_refl, add-zero, mul-le-mul_right, suc-mul, div-lt_iff_lt-mul, add-mul, mul-zero, le-div_iff_mul-le, div-mul-le_self, arith}
+use Rattle.std.proofs.Common.{◌≡◌, ℕ, zero, suc, ◌+◌, ◌-◌, ◌*◌, ◌/◌, ◌<◌, ◌≤◌, min, eqb, leb, List, ◌++◌, length, take, drop, length-take-le, sym, ap, ◌∙◌, subst, ap₂, ⊎_elim, suc-le-suc, zero-le, le_refl, add-zero, mul-le-mul_right, suc-mul, div-lt_iff_lt-mul, add-mul, mul-zero, le-div_iff_mul-le, div-mul-le_self, arith}
 use native.Mathlib.Nat.{lt-div-mul-add}
 use Rattle.std.proofs.lemmas.Bool.{cond-true, cond-false, le-leb, lt-leb, cases_lt, ne_eqb}
 use Rattle.packed.specs.Bytes.{cells_at, overwrite}
-use Rattle.packed.proofs.Bytes.{fill-cells}
-use Rattle.bit_reader.specs.Reader.{readable, Counted, Inside, Moved, page, position}
+use Rattle.packed.proofs.Bytes.{cells_at-append, length-cells_at}
+use Rattle.packed.proofs.Overwrite.{put_mid-overwrite}
+use Rattle.bit_reader.specs.Reader.{readable, Counted, Moved, page, position}
 use Rattle.bit_reader.specs.declared.BitReader.{BitReader}
 
 -- what k of m values keep, in bits that are left
@@ -53,30 +54,26 @@ counted s p w m k left inside e g =
       next = λ h. cond-false (leb (p + k * w + w) (8 * length s)) _ _ (lt-leb (p + k * w + w) (8 * length s) (omega (arith, f.next h)));
     }
 
--- ---- where a reader stands
-
-pub moved_none : (r : BitReader) (p : ℕ) → Inside r → position r ≡ p → Moved r r p
-moved_none r p inside e = record { same = refl; to = e; inside = inside }
-
--- one move after the other
-pub moved_more : (a b c : BitReader) (p q to : ℕ) → Moved a b p → Moved b c q → q ≡ to → Moved a c to
-moved_more a b c p q to m n e = record { same = n.same ∙ m.same; to = n.to ∙ e; inside = n.inside }
-
 -- ---- cells that were filled while a reader went on
 
-pub record Filled {A : Type 0} (made : ℕ → A) (o : List A) (at w : ℕ) (before after : BitReader) (now : List A) (k : ℕ) : Type 0 where
-  pub cells : now ≡ overwrite o at (cells_at made (page before) (position before) w k)
-  pub moved : Moved before after (position before + k * w)
+-- cells of k values behind those of j
+pub cells_joined : {A : Type 0} (made : ℕ → A) (w : ℕ) (a b : BitReader) (xs ys : List A) (j k n : ℕ)
+    → xs ≡ cells_at made (page a) (position a) w j → Moved a b (position a + j * w)
+    → ys ≡ cells_at made (page b) (position b) w k → n ≡ j + k
+    → xs ++ ys ≡ cells_at made (page a) (position a) w n
+cells_joined made w a b xs ys j k n first moved then all =
+    ap₂ ◌++◌ first (then ∙ ap₂ (λ s p. cells_at made s p w k) moved.same moved.to)
+    ∙ sym (cells_at-append made (page a) (position a) w j k)
+    ∙ ap (cells_at made (page a) (position a) w) (sym all)
 
--- j cells more behind k
-pub filled_more : {A : Type 0} (made : ℕ → A) (o : List A) (at w : ℕ) (a b c : BitReader) (now more : List A) (k j : ℕ)
-    → at + k ≤ length o → Filled made o at w a b now k → Filled made now (at + k) w b c more j → Filled made o at w a c more (k + j)
-filled_more made o at w a b c now more k j room f g =
-    let m = f.moved in
-    record {
-      cells =
-          g.cells
-          ∙ ap₂ (λ l n. overwrite l (at + k) n) f.cells (ap₂ (λ s p. cells_at made s p w j) m.same m.to)
-          ∙ fill-cells made (page a) o at (position a) w k j room;
-      moved = moved_more a b c (position a + k * w) (position b + j * w) (position a + (k + j) * w) m g.moved (omega (arith, m.to, add-mul k j w));
-    }
+-- the bits of k values behind those of j
+pub bits_joined : (w j k n : ℕ) → n ≡ j + k → n * w ≡ j * w + k * w
+bits_joined w j k n all = ap (λ x. x * w) all ∙ add-mul j k w
+
+-- cells of k values at the front of a batch
+pub cells_in_front : {A : Type 0} (made : ℕ → A) (s : List ℕ) (p w k : ℕ) (batch front : List A)
+    → front ≡ cells_at made s p w (length (take k batch)) → k ≤ length batch
+    → front ++ drop k batch ≡ overwrite batch 0 (cells_at made s p w k)
+cells_in_front made s p w k batch front filled room =
+    let cells : front ≡ cells_at made s p w k = filled ∙ ap (cells_at made s p w) (length-take-le k batch room) in
+    put_mid-overwrite batch 0 k front (ap length cells ∙ length-cells_at made s p w k) ∙ ap (overwrite batch 0) cells

@@ -2,26 +2,28 @@
 #![tactic(auto)]
 
 ghost use Rattle.std.specs.Prelude.{◌≡◌, ◌+◌, ◌*◌, ◌%◌, ◌<◌, ◌≤◌, cond, length, is_some, if◌then◌else◌};
-ghost use Rattle.packed.specs.Bytes.{bits_at, cells_at, overwrite};
-ghost use Rattle.bit_reader.specs.Reader.{Counted, Inside, Moved, next_byte, page, position, read_one};
+ghost use Rattle.packed.specs.Bytes.{bits_at, overwrite};
 ghost use Rattle.packed.specs.Vlq.{number_of, read_vlq, signed_of, taken_of};
 
-use packed::{Element, Fault, bits_at, from_zigzag, read_vlq, unpack_groups};
+use packed::{Element, Fault, bits_at, from_zigzag, read_vlq, unpack};
 
 /// Reads from a page, the lowest bit of each byte first.
-#[derive(Clone, Copy)]
+#[derive(Clone, Copy, Debug)]
 pub struct BitReader<'a> {
     buffer: &'a [u8],
     byte_offset: usize,
     bit_offset: usize,
+    pub ghost in_byte: { bit_offset < 8 },
+    pub ghost in_page: { 8 * byte_offset + bit_offset ≤ 8 * length buffer.now },
 }
 
 impl<'a> BitReader<'a> {
+    ghost use Rattle.bit_reader.specs.Reader.{Counted, HasValues, Moved, next_byte, next_cells, next_vlq, page, position, read_one};
+
     /// A reader at the page's first bit.
     pub fn new(buffer: &'a [u8]) -> BitReader<'a>
         ensures page { page result ≡ buffer.now }
         ensures start { position result ≡ 0 }
-        ensures inside { Inside result }
     {
         BitReader {
             buffer,
@@ -35,7 +37,6 @@ impl<'a> BitReader<'a> {
         requires { bit ≤ 8 * length buffer.now }
         ensures page { page result ≡ buffer.now }
         ensures start { position result ≡ bit }
-        ensures inside { Inside result }
     {
         BitReader {
             buffer,
@@ -46,7 +47,6 @@ impl<'a> BitReader<'a> {
 
     /// The next byte that no bit was read of.
     pub fn get_byte_offset(&self) -> usize
-        requires { Inside self.now }
         ensures { result ≡ next_byte self.now }
     {
         if self.bit_offset == 0 {
@@ -58,7 +58,7 @@ impl<'a> BitReader<'a> {
 
     /// The next value, or none where fewer than `num_bits` bits are left.
     pub fn get_value(&mut self, num_bits: usize) -> Option<u64>
-        requires { (Inside self.old) × (num_bits ≤ 64) }
+        requires { num_bits ≤ 64 }
         ensures value { result ≡ read_one (page self.old) (position self.old) num_bits }
         ensures moved { Moved self.old self.new (position self.old + cond (is_some result) num_bits 0) }
     {
@@ -70,7 +70,7 @@ impl<'a> BitReader<'a> {
 
     /// Passes over the next `num_values` values, or those that are left, and answers how many they were.
     pub fn skip(&mut self, num_values: usize, num_bits: usize) -> usize
-        requires { (Inside self.old) × (num_bits ≤ 64) }
+        requires { num_bits ≤ 64 }
         ensures count { Counted (page self.old) (position self.old) num_bits num_values result }
         ensures moved { Moved self.old self.new (position self.old + result * num_bits) }
     {
@@ -80,36 +80,36 @@ impl<'a> BitReader<'a> {
     }
 
     /// The next values, as many as `batch` has cells or are left, and how many they were. The other cells stay.
+    #[tactic(auto, using(crate::proofs::Reading::cells_in_front))]
     pub fn get_batch<T: Element>(&mut self, batch: &mut [T], num_bits: usize) -> usize
-        requires { (Inside self.old) × (num_bits ≤ 64) }
+        requires { num_bits ≤ 64 }
         ensures count { Counted (page self.old) (position self.old) num_bits (length batch.old) result }
-        ensures cells { batch.new ≡ overwrite batch.old 0 (cells_at T.Element.made (page self.old) (position self.old) num_bits result) }
+        ensures cells { batch.new ≡ overwrite batch.old 0 (next_cells T.Element.made self.old num_bits result) }
         ensures moved { Moved self.old self.new (position self.old + result * num_bits) }
     {
         let count = self.readable(batch.len(), num_bits);
-        self.fill(batch, 0, count, num_bits);
+        self.fill_batch(&mut batch[..count], num_bits);
         count
     }
 
-    /// The next `count` values, which are there, into the cells from `at` on. The other cells stay.
-    pub fn fill_batch<T: Element>(
-        &mut self,
-        batch: &mut [T],
-        at: usize,
-        count: usize,
-        num_bits: usize,
-    )
-        requires { (Inside self.old) × ((num_bits ≤ 64) × ((at + count ≤ length batch.old) × (position self.old + count * num_bits ≤ 8 * length (page self.old)))) }
-        ensures cells { batch.new ≡ overwrite batch.old at (cells_at T.Element.made (page self.old) (position self.old) num_bits count) }
-        ensures moved { Moved self.old self.new (position self.old + count * num_bits) }
+    /// The next values, as many as there are cells, which are there.
+    #[tactic(auto, using(crate::proofs::Reading::cells_joined, crate::proofs::Reading::bits_joined))]
+    pub fn fill_batch<T: Element>(&mut self, cells: &mut [T], num_bits: usize)
+        requires width { num_bits ≤ 64 }
+        requires room { HasValues self.old num_bits (length cells.old) }
+        ensures cells { cells.new ≡ next_cells T.Element.made self.old num_bits (length cells.old) }
+        ensures moved { Moved self.old self.new (position self.old + length cells.old * num_bits) }
     {
-        self.fill(batch, at, count, num_bits);
+        let head_len = self.values_to_byte(cells.len(), num_bits);
+        let (head, tail) = cells.split_at_mut(head_len);
+        self.fill_singles(head, num_bits);
+        self.fill_tail(tail, num_bits);
     }
 
     /// The next `num_bytes` whole bytes, the first byte lowest, or none where fewer are left. Bits before the next whole
     /// byte are passed over.
     pub fn get_aligned(&mut self, num_bytes: usize) -> Option<u64>
-        requires { (Inside self.old) × (num_bytes ≤ 8) }
+        requires { num_bytes ≤ 8 }
         ensures value { result ≡ read_one (page self.old) (8 * next_byte self.old) (8 * num_bytes) }
         ensures moved { Moved self.old self.new (8 * next_byte self.old + (if is_some result then 8 * num_bytes else 0)) }
     {
@@ -119,9 +119,8 @@ impl<'a> BitReader<'a> {
 
     /// The number that begins at the next whole byte. A fault leaves the reader at that byte.
     pub fn get_vlq_int(&mut self) -> Result<u64, Fault>
-        requires { Inside self.old }
-        ensures value { result ≡ number_of (read_vlq (page self.old) (next_byte self.old)) }
-        ensures moved { Moved self.old self.new (8 * (next_byte self.old + taken_of (read_vlq (page self.old) (next_byte self.old)))) }
+        ensures value { result ≡ number_of (next_vlq self.old) }
+        ensures moved { Moved self.old self.new (8 * (next_byte self.old + taken_of (next_vlq self.old))) }
     {
         self.align();
         self.take_vlq()
@@ -129,9 +128,8 @@ impl<'a> BitReader<'a> {
 
     /// The signed number whose zigzag begins at the next whole byte.
     pub fn get_zigzag_vlq_int(&mut self) -> Result<i64, Fault>
-        requires { Inside self.old }
-        ensures value { result ≡ signed_of (number_of (read_vlq (page self.old) (next_byte self.old))) }
-        ensures moved { Moved self.old self.new (8 * (next_byte self.old + taken_of (read_vlq (page self.old) (next_byte self.old)))) }
+        ensures value { result ≡ signed_of (number_of (next_vlq self.old)) }
+        ensures moved { Moved self.old self.new (8 * (next_byte self.old + taken_of (next_vlq self.old))) }
     {
         let value = self.get_vlq_int()?;
         Ok(from_zigzag(value))
@@ -139,7 +137,6 @@ impl<'a> BitReader<'a> {
 
     // Goes on to the next whole byte.
     fn align(&mut self)
-        requires { Inside self.old }
         ensures moved { Moved self.old self.new (8 * next_byte self.old) }
         ensures byte { self.new.byte_offset ≡ next_byte self.old }
         ensures bit { self.new.bit_offset ≡ 0 }
@@ -150,7 +147,7 @@ impl<'a> BitReader<'a> {
 
     // How many of `num_values` values are left.
     fn readable(&self, num_values: usize, num_bits: usize) -> usize
-        requires { (Inside self.now) × (num_bits ≤ 64) }
+        requires { num_bits ≤ 64 }
         ensures { Counted (page self.now) (position self.now) num_bits num_values result }
     {
         let left = (self.buffer.len() - self.byte_offset) as u128 * 8 - self.bit_offset as u128;
@@ -163,7 +160,8 @@ impl<'a> BitReader<'a> {
 
     // Goes on past values that are there.
     fn advance(&mut self, num_values: usize, num_bits: usize)
-        requires { (Inside self.old) × ((num_bits ≤ 64) × (position self.old + num_values * num_bits ≤ 8 * length (page self.old))) }
+        requires width { num_bits ≤ 64 }
+        requires room { HasValues self.old num_bits num_values }
         ensures { Moved self.old self.new (position self.old + num_values * num_bits) }
     {
         let bits = self.bit_offset as u128 + num_values as u128 * num_bits as u128;
@@ -173,7 +171,7 @@ impl<'a> BitReader<'a> {
 
     // The number that begins at this whole byte.
     fn take_vlq(&mut self) -> Result<u64, Fault>
-        requires { (Inside self.old) × (self.old.bit_offset ≡ 0) }
+        requires { self.old.bit_offset ≡ 0 }
         ensures value { result ≡ number_of (read_vlq (page self.old) self.old.byte_offset) }
         ensures moved { Moved self.old self.new (8 * (self.old.byte_offset + taken_of (read_vlq (page self.old) self.old.byte_offset))) }
     {
@@ -185,7 +183,8 @@ impl<'a> BitReader<'a> {
 
     // Takes a value that is there.
     fn take_value(&mut self, num_bits: usize) -> u64
-        requires { (Inside self.old) × ((num_bits ≤ 64) × (position self.old + num_bits ≤ 8 * length (page self.old))) }
+        requires width { num_bits ≤ 64 }
+        requires room { HasValues self.old num_bits 1 }
         ensures value { result ≡ bits_at (page self.old) (position self.old) num_bits }
         ensures moved { Moved self.old self.new (position self.old + num_bits) }
     {
@@ -194,67 +193,53 @@ impl<'a> BitReader<'a> {
         value
     }
 
-    // `count` values that are there, into the cells from `at` on: one by one up to a whole byte, then by the kernels, then
-    // those of the last group.
-    fn fill<T: Element>(&mut self, batch: &mut [T], at: usize, count: usize, num_bits: usize)
-        requires { (Inside self.old) × ((num_bits ≤ 64) × ((at + count ≤ length batch.old) × (position self.old + count * num_bits ≤ 8 * length (page self.old)))) }
-        ensures cells { batch.new ≡ overwrite batch.old at (cells_at T.Element.made (page self.old) (position self.old) num_bits count) }
-        ensures moved { Moved self.old self.new (position self.old + count * num_bits) }
-    {
-        let head = self.values_to_byte(count, num_bits);
-        self.fill_singles(batch, at, head, num_bits);
-        if head == count {
-            return;
-        }
-        let groups = (count - head) / 8;
-        self.fill_groups(batch, at + head, groups, num_bits);
-        let rest = (count - head) % 8;
-        self.fill_singles(batch, at + head + 8 * groups, rest, num_bits);
-    }
-
     // How many of `count` values end at the next whole byte: all, if none of the first seven does.
     fn values_to_byte(&self, count: usize, num_bits: usize) -> usize
-        requires { (Inside self.now) × (num_bits ≤ 64) }
+        requires { num_bits ≤ 64 }
         ensures bound { result ≤ count }
         ensures whole { result < count → (self.now.bit_offset + result * num_bits) % 8 ≡ 0 }
     {
-        for k in 0..8 {
-            if k < count && (self.bit_offset + k * num_bits) % 8 == 0 {
-                return k;
-            }
-        }
-        count
+        (0..count.min(8))
+            .find(|k| (self.bit_offset + *k * num_bits) % 8 == 0)
+            .unwrap_or(count)
     }
 
-    fn fill_singles<T: Element>(
-        &mut self,
-        batch: &mut [T],
-        at: usize,
-        count: usize,
-        num_bits: usize,
-    )
-        requires { (Inside self.old) × ((num_bits ≤ 64) × ((at + count ≤ length batch.old) × (position self.old + count * num_bits ≤ 8 * length (page self.old)))) }
-        ensures cells { batch.new ≡ overwrite batch.old at (cells_at T.Element.made (page self.old) (position self.old) num_bits count) }
-        ensures moved { Moved self.old self.new (position self.old + count * num_bits) }
+    // One by one.
+    fn fill_singles<T: Element>(&mut self, cells: &mut [T], num_bits: usize)
+        requires width { num_bits ≤ 64 }
+        requires room { HasValues self.old num_bits (length cells.old) }
+        ensures cells { cells.new ≡ next_cells T.Element.made self.old num_bits (length cells.old) }
+        ensures moved { Moved self.old self.new (position self.old + length cells.old * num_bits) }
     {
-        for i in 0..count {
-            batch[at + i] = T::from_pattern(self.take_value(num_bits));
+        for cell in cells.iter_mut() {
+            *cell = T::from_pattern(self.take_value(num_bits));
         }
     }
 
-    // Groups of eight, from a whole byte on.
-    fn fill_groups<T: Element>(
-        &mut self,
-        batch: &mut [T],
-        at: usize,
-        groups: usize,
-        num_bits: usize,
-    )
-        requires { (Inside self.old) × ((num_bits ≤ 64) × ((at + 8 * groups ≤ length batch.old) × ((position self.old + 8 * groups * num_bits ≤ 8 * length (page self.old)) × (position self.old % 8 ≡ 0)))) }
-        ensures cells { batch.new ≡ overwrite batch.old at (cells_at T.Element.made (page self.old) (position self.old) num_bits (8 * groups)) }
-        ensures moved { Moved self.old self.new (position self.old + 8 * groups * num_bits) }
+    // From a whole byte on, if there are any: groups of eight by the kernel, then those that are left.
+    #[tactic(auto, using(crate::proofs::Reading::cells_joined, crate::proofs::Reading::bits_joined))]
+    fn fill_tail<T: Element>(&mut self, cells: &mut [T], num_bits: usize)
+        requires width { num_bits ≤ 64 }
+        requires room { HasValues self.old num_bits (length cells.old) }
+        requires whole { 0 < length cells.old → position self.old % 8 ≡ 0 }
+        ensures cells { cells.new ≡ next_cells T.Element.made self.old num_bits (length cells.old) }
+        ensures moved { Moved self.old self.new (position self.old + length cells.old * num_bits) }
     {
-        unpack_groups(self.buffer, self.byte_offset, batch, at, groups, num_bits);
-        self.advance(8 * groups, num_bits);
+        let (groups, rest) = cells.split_at_mut(cells.len() - cells.len() % 8);
+        self.fill_groups(groups, num_bits);
+        self.fill_singles(rest, num_bits);
+    }
+
+    // Groups of eight.
+    fn fill_groups<T: Element>(&mut self, cells: &mut [T], num_bits: usize)
+        requires width { num_bits ≤ 64 }
+        requires groups { length cells.old % 8 ≡ 0 }
+        requires room { HasValues self.old num_bits (length cells.old) }
+        requires whole { 0 < length cells.old → position self.old % 8 ≡ 0 }
+        ensures cells { cells.new ≡ next_cells T.Element.made self.old num_bits (length cells.old) }
+        ensures moved { Moved self.old self.new (position self.old + length cells.old * num_bits) }
+    {
+        unpack(&self.buffer[self.byte_offset..], cells, num_bits);
+        self.advance(cells.len(), num_bits);
     }
 }

@@ -1,5 +1,5 @@
 -- How what a writer puts joins what it put before.
-use Rattle.std.proofs.Common.{drop, drop-drop, append_assoc, refl, zero, suc, ◌∷◌, pow-suc, div-one, not-suc-le-zero, le_of_suc-le-suc, ◌≡◌, ℕ, ◌+◌, ◌-◌, ◌*◌, ◌/◌, ◌%◌, ◌^◌, ◌<◌, ◌≤◌, List, ◌++◌, length, get_or, take, sym, ap, ◌∙◌, subst, ap₂, lt_of_lt_of_le, mod-eq_of_lt, mul_assoc, suc-mul, mul_comm, add_comm, mul-add, add-one, arith, lit<, pow_pos, pow_mono, pow-add, shr-shr, shr_lt}
+use Rattle.std.proofs.Common.{zero-add, zero-le, drop, drop-drop, append_assoc, refl, zero, suc, ◌∷◌, pow-suc, div-one, not-suc-le-zero, le_of_suc-le-suc, ◌≡◌, ℕ, ◌+◌, ◌-◌, ◌*◌, ◌/◌, ◌%◌, ◌^◌, ◌<◌, ◌≤◌, List, ◌++◌, length, get_or, take, sym, ap, ◌∙◌, subst, ap₂, lt_of_lt_of_le, mod-eq_of_lt, mul_assoc, suc-mul, mul_comm, add_comm, mul-add, add-one, arith, lit<, pow_pos, pow_mono, pow-add, shr-shr, shr_lt}
 use borrow.Rule.Slice.PartMut.{put_mid}
 use lib.Pow.{high, low, mod-pow-add}
 use lib.Arith.{digits_lt}
@@ -14,7 +14,7 @@ use Rattle.bit_writer.specs.Writer.{HoldsNone, PutBits, Wrote, buffer, held_byte
 use Rattle.bit_writer.specs.declared.BitWriter.{BitWriter}
 use Rattle.packed.proofs.Bytes.{power-bits, shl-cut}
 use Rattle.packed.proofs.Digits.{length_digits, number_push, digits_append, digits_same}
-use Rattle.packed.proofs.Overwrite.{overwrite-none, overwrite-overwrite}
+use Rattle.packed.proofs.Overwrite.{overwrite-none, overwrite-overwrite, take-overwrite}
 
 -- ---- a part of a buffer
 
@@ -133,6 +133,23 @@ module _ {a b c : BitWriter} {front more : List ℕ} (w : Wrote a b front) (v : 
 -- no bits are the number 0
 pub none_held : (w : BitWriter) → HoldsNone w → w.buffered_values ≡ 0
 none_held w none = omega (arith, subst (λ n. w.buffered_values < 2 ^ n) none w.small)
+
+-- a writer that holds no bits writes none before its next bytes
+held_none : (w : BitWriter) (more : List ℕ) → HoldsNone w → held_bytes w ++ more ≡ more
+unfolding digits
+held_none w more none = ap (λ n. digits 256 (bytes_for n) w.buffered_values ++ more) none
+
+pub wrote_first : {a b : BitWriter} {bytes : List ℕ} → HoldsNone a → Wrote a b (held_bytes a ++ bytes) → Wrote a b bytes
+wrote_first {a = a} {b = b} {bytes = bytes} none w = subst (Wrote a b) (held_none a bytes none) w
+
+pub wrote_next : {a b c : BitWriter} {front : List ℕ} (more : List ℕ) → Wrote a b front → Wrote b c (held_bytes b ++ more) → Wrote a c (front ++ more)
+wrote_next more w v = wrote_then w (wrote_first w.count v)
+
+-- what a writer wrote from the first byte on is the front of its buffer
+pub wrote_front : {a b : BitWriter} {bytes : List ℕ} → a.byte_offset ≡ 0 → Wrote a b bytes → take (length bytes) (buffer b) ≡ bytes
+wrote_front {a = a} {b = b} {bytes = bytes} start w =
+    ap₂ take (sym (zero-add (length bytes))) (w.buffer_is ∙ ap (λ at. overwrite (buffer a) at bytes) start)
+    ∙ take-overwrite (buffer a) 0 bytes zero-le
 
 -- no bits yet
 pub put_none : (w : BitWriter) → HoldsNone w → PutBits w w 0 0

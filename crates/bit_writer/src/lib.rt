@@ -164,6 +164,8 @@ impl<'a> BitWriter<'a> {
         self.append_packed(values, num_bits);
     }
 
+    // Four methods append, and not one: each stores in its own way, so that one for all would take the store as a closure.
+
     // Packed values right behind the bytes that were written.
     fn append_packed(&mut self, values: &[u64], num_bits: usize)
         requires none { HoldsNone self.old }
@@ -220,7 +222,7 @@ fn above(v: u64, count: usize) -> u64
     v << count
 }
 
-// What is left of a value whose lowest bits went into the word before.
+// What is left of a value whose lowest bits went into the word before. `checked_shr` would say the test in more words.
 fn carried(v: u64, taken: usize) -> u64
     requires { taken ≤ 64 }
     ensures { result ≡ v / 2 ^ taken }

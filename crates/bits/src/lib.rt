@@ -6,6 +6,5 @@
 pub use bit_reader::BitReader;
 pub use bit_writer::BitWriter;
 pub use packed::{
-    Element, Fault, FaultKind, Layer, from_zigzag, read_vlq, to_zigzag, unpack8, unpack16,
-    unpack32, unpack64, write_vlq,
+    Element, Fault, FaultKind, Layer, from_zigzag, read_vlq, to_zigzag, unpack, write_vlq,
 };

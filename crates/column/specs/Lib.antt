@@ -1,4 +1,5 @@
 pub mod Coding
+pub mod Heads
 pub mod Pages
 pub mod Putting
 pub mod Refusals

@@ -1,12 +1,11 @@
 //! What a detector head reports.
-ghost use Rattle.std.specs.Prelude.{ℕ, ◌+◌, ◌*◌, ◌/◌, ◌%◌, ◌<◌, ◌≡◌};
-ghost use Rattle.column.specs.declared.head_reading.HeadReading.{HeadReading};
-ghost use Rattle.std.proofs.Common.{rules};
+ghost use Rattle.std.proofs.Common.{lit≤};
+ghost use Rattle.column.specs.Heads.{IsReading, pattern_of, reading_of, reading_below, reading_makes, reading_wraps};
 
 use packed::Element;
 
 /// A head's address on the loop and its analogue value.
-#[derive(Clone, Copy)]
+#[derive(Clone, Copy, Debug, PartialEq, Eq)]
 pub struct HeadReading {
     pub address: u8,
     pub value: u8,
@@ -17,19 +16,19 @@ impl Element for HeadReading {
 
     ghost WIDTH = { 16 };
 
-    ghost proper = { λ v. (v.address < 256) × (v.value < 256) };
+    ghost proper = { IsReading };
 
-    ghost pattern = { λ v. v.address * 256 + v.value };
+    ghost pattern = { pattern_of };
 
-    ghost made = { λ p. record { address = (p / 256) % 256; value = p % 256 } };
+    ghost made = { reading_of };
 
-    ghost narrow = { Prim.search rules };
+    ghost narrow = { (lit≤ tt, lit≤ tt) };
 
-    ghost below = { Prim.search rules };
+    ghost below = { reading_below };
 
-    ghost makes = { Prim.search rules };
+    ghost makes = { reading_makes };
 
-    ghost wraps = { Prim.search rules };
+    ghost wraps = { reading_wraps };
 
     fn to_pattern(self) -> u64 {
         self.address as u64 * 256 + self.value as u64

@@ -1,12 +1,13 @@
 -- The laws of bits in bytes: where a field lies, how fields are cut and joined.
-use Rattle.std.proofs.Common.{◌≡◌, ℕ, zero, suc, ◌+◌, ◌-◌, ◌*◌, ◌/◌, ◌%◌, ◌^◌, ◌<◌, ◌≤◌, List, [], ◌∷◌, ◌++◌, length, get_or, drop, set, sym, refl, ap, ◌∙◌, subst, ap₂, zero-le, lt_of_lt_of_le, le_of_suc-le-suc, not-suc-le-zero, add-zero, add_assoc, mul-le-mul_right, mod-lt, mod-eq_of_lt, mul_assoc, suc-mul, mul_comm, add_comm, suc-add, pow-suc, mul-zero, zero-add, zero-mul, mul-suc, div-one, mul-div_cancel, add-one, arith, lit<, lit≤, length-drop, pow_pos, pow_mono, pow-add, shr-shr}
+use Rattle.std.proofs.Common.{suc-le-suc, ◌≡◌, ℕ, zero, suc, ◌+◌, ◌-◌, ◌*◌, ◌/◌, ◌%◌, ◌^◌, ◌<◌, ◌≤◌, List, [], ◌∷◌, ◌++◌, length, get_or, take, drop, set, replicate, sym, refl, ap, ◌∙◌, subst, ap₂, zero-le, lt_of_lt_of_le, le_of_suc-le-suc, not-suc-le-zero, add-zero, add_assoc, mul-le-mul_right, mod-lt, mod-eq_of_lt, mul_assoc, suc-mul, mul_comm, add_comm, suc-add, pow-suc, mul-zero, zero-add, zero-mul, mul-suc, div-one, mul-div_cancel, add-one, arith, lit<, pow_pos, pow_mono, pow-add, shr-shr}
 use lib.Pow.{field, mod-mod-pow, mod-pow-add}
-use native.Mathlib.Nat.{pow-zero, mod-mod, div-eq_of_lt, pow-le-pow_right, mul-mod_left, add-mul-mod_self_left}
-use Rattle.std.proofs.lemmas.List.{drop_more}
+use native.Mathlib.Nat.{pow-zero, mod-mod, div-eq_of_lt, mul-mod_left, add-mul-mod_self_left}
+use Rattle.std.proofs.lemmas.List.{take_more_set, take_rest}
+use Rattle.std.specs.Int.{from_le_bytes, w64}
 use Rattle.packed.specs.Digits.{number, digits}
 use Rattle.packed.specs.Bytes.{bits_at, cells_at, overwrite}
-use Rattle.packed.proofs.Overwrite.{drop-overwrite, overwrite-none, overwrite-push, overwrite-overwrite}
-use Rattle.packed.proofs.Digits.{number-mod, number-drop, number-below, number_append, number-digit, number_digits, length_digits}
+use Rattle.packed.proofs.Overwrite.{drop-overwrite}
+use Rattle.packed.proofs.Digits.{number-take, number-mod, number-drop, number-below, number_append, number-digit, number_digits, length_digits}
 
 -- k digits of j bits each are j k bits
 pub power-bits : (j k : ℕ) → (2 ^ j) ^ k ≡ 2 ^ (j * k)
@@ -44,6 +45,11 @@ bits_at-drop s j p w =
     ap (λ x. x / 2 ^ p % 2 ^ w) (number-drop 256 (lit< tt) j s ∙ ap (λ x. number 256 s / x) (power-bits 8 j))
     ∙ ap (λ x. x % 2 ^ w) (shr-shr (number 256 s) (8 * j) p)
 
+-- the first bits of the bytes from j on
+pub bits_at-rest : (s : List ℕ) (j w : ℕ) → bits_at (take (length s - j) (drop j s)) 0 w ≡ bits_at s (8 * j) w
+bits_at-rest s j w =
+    ap (λ l. bits_at l 0 w) (take_rest s j) ∙ bits_at-drop s j 0 w ∙ ap (λ p. bits_at s p w) (add-zero (8 * j))
+
 -- past the last byte
 pub bits_at-past : (s : List ℕ) (p w : ℕ) → 8 * length s ≤ p → bits_at s p w ≡ 0
 unfolding bits_at
@@ -71,28 +77,40 @@ pub bits_at-high : (s : List ℕ) (p q c : ℕ) → bits_at s p (q + c) / 2 ^ c 
 unfolding bits_at
 bits_at-high s p q c = field (number 256 s / 2 ^ p) q c ∙ ap (λ x. x % 2 ^ q) (shr-shr (number 256 s) p c)
 
--- ---- words
-
--- the bytes from i on, of which there are at most k
-pub rest_below : (s : List ℕ) (i k : ℕ) → length s ≤ i + k → number 256 (drop i s) < 2 ^ (8 * k)
-rest_below s i k h =
-    lt_of_lt_of_le (number-below 256 (lit< tt) (drop i s))
-    (subst (λ x. 256 ^ length (drop i s) ≤ x) (power-bits 8 k) (pow-le-pow_right (lit< tt) (simp length-drop (omega arith))))
-
-pub rest-is : (s : List ℕ) (i : ℕ) → length s < i + 8 → number 256 (drop i s) ≡ bits_at s (8 * i) 64
+-- bits of the first k bytes
+pub bits_at-take : (s : List ℕ) (k p w : ℕ) → p + w ≤ 8 * k → bits_at (take k s) p w ≡ bits_at s p w
 unfolding bits_at
-rest-is s i h =
-    let small : number 256 (drop i s) < 2 ^ 56 = rest_below s i 7 (omega arith) in
-    let e : number 256 (drop i s) ≡ number 256 s / 2 ^ (8 * i) = number-drop 256 (lit< tt) i s ∙ ap (λ x. number 256 s / x) (power-bits 8 i) in
-    sym (mod-eq_of_lt (lt_of_lt_of_le small (lit≤ tt))) ∙ ap (λ x. x % 2 ^ 64) e
+bits_at-take s k p w room =
+    ap (λ n. n / 2 ^ p % 2 ^ w) (number-take 256 (lit< tt) k s ∙ ap (λ x. number 256 s % x) (power-bits 8 k))
+    ∙ bits_inside (number 256 s) p w (8 * k) room
 
--- one byte more in front
-pub rest_more : (s : List ℕ) (i : ℕ) → i < length s → get_or s i 0 < 256 → number 256 (drop i s) ≡ number 256 (drop (i + 1) s) * 256 + get_or s i 0
+number-zeros : (n : ℕ) → number 256 (replicate n 0) ≡ 0
 unfolding number
-rest_more s i room fits =
-    ap (number 256) (drop_more s i 0 room)
-    ∙ ap₂ ◌+◌ (mod-eq_of_lt fits) (mul_comm 256 (number 256 (drop (i + 1) s)))
-    ∙ add_comm (get_or s i 0) (number 256 (drop (i + 1) s) * 256)
+number-zeros zero = refl
+number-zeros (suc n) = rw (number-zeros n)
+
+-- zeros behind the last byte
+pub bits_at-zeros : (s : List ℕ) (n p w : ℕ) → bits_at (s ++ replicate n 0) p w ≡ bits_at s p w
+unfolding bits_at
+bits_at-zeros s n p w =
+    ap (λ x. x / 2 ^ p % 2 ^ w)
+    (number_append 256 (lit< tt) s (replicate n 0) ∙ rw (number-zeros n, mul-zero, add-zero))
+
+-- the first k bytes are bytes, and so are zeros behind them
+pub take_fits : (s : List ℕ) (k : ℕ) → ((i : ℕ) → get_or s i 0 < 256) → (i : ℕ) → get_or (take k s) i 0 < 256
+take_fits s zero fits i = lit< tt
+take_fits [] (suc k) fits i = lit< tt
+take_fits (b ∷ bs) (suc k) fits zero = fits 0
+take_fits (b ∷ bs) (suc k) fits (suc i) = take_fits bs k (λ j. fits (suc j)) i
+
+pub zeros_fit : (s : List ℕ) (n : ℕ) → ((i : ℕ) → get_or s i 0 < 256) → (i : ℕ) → get_or (s ++ replicate n 0) i 0 < 256
+zeros_fit [] zero fits i = lit< tt
+zeros_fit [] (suc n) fits zero = lit< tt
+zeros_fit [] (suc n) fits (suc i) = zeros_fit [] n fits i
+zeros_fit (b ∷ bs) n fits zero = fits 0
+zeros_fit (b ∷ bs) n fits (suc i) = zeros_fit bs n (λ j. fits (suc j)) i
+
+-- ---- words
 
 byte_more : (s : List ℕ) (i j k : ℕ) → i + 1 ≡ j → get_or s i 0 < 256 → bits_at s (8 * i) (8 + k) ≡ bits_at s (8 * j) k * 256 + get_or s i 0
 byte_more s i j k e fits =
@@ -100,16 +118,16 @@ byte_more s i j k e fits =
     bits_at-join s (8 * i) 8 k ∙ ap₂ (λ x y. bits_at s x k * 256 + y) next (bits_at-byte s i fits)
 
 -- a word by its eight bytes
-pub word_bytes : (s : List ℕ) (i : ℕ) → ((k : ℕ) → get_or s k 0 < 256) → bits_at s (8 * i) 64 ≡ get_or s i 0 + get_or s (i + 1) 0 * 256 + get_or s (i + 2) 0 * 65536 + get_or s (i + 3) 0 * 16777216 + get_or s (i + 4) 0 * 4294967296 + get_or s (i + 5) 0 * 1099511627776 + get_or s (i + 6) 0 * 281474976710656 + get_or s (i + 7) 0 * 72057594037927936
-word_bytes s i fits =
-    let e0 = byte_more s i (i + 1) 56 refl (fits i) in
-    let e1 = byte_more s (i + 1) (i + 2) 48 (omega arith) (fits (i + 1)) in
-    let e2 = byte_more s (i + 2) (i + 3) 40 (omega arith) (fits (i + 2)) in
-    let e3 = byte_more s (i + 3) (i + 4) 32 (omega arith) (fits (i + 3)) in
-    let e4 = byte_more s (i + 4) (i + 5) 24 (omega arith) (fits (i + 4)) in
-    let e5 = byte_more s (i + 5) (i + 6) 16 (omega arith) (fits (i + 5)) in
-    let e6 = byte_more s (i + 6) (i + 7) 8 (omega arith) (fits (i + 6)) in
-    let e7 = bits_at-byte s (i + 7) (fits (i + 7)) in
+pub word_bytes : (s : List ℕ) → ((k : ℕ) → get_or s k 0 < 256) → from_le_bytes w64 s ≡ bits_at s 0 64
+word_bytes s fits =
+    let e0 = byte_more s 0 1 56 refl (fits 0) in
+    let e1 = byte_more s 1 2 48 refl (fits 1) in
+    let e2 = byte_more s 2 3 40 refl (fits 2) in
+    let e3 = byte_more s 3 4 32 refl (fits 3) in
+    let e4 = byte_more s 4 5 24 refl (fits 4) in
+    let e5 = byte_more s 5 6 16 refl (fits 5) in
+    let e6 = byte_more s 6 7 8 refl (fits 6) in
+    let e7 = bits_at-byte s 7 (fits 7) in
     omega arith
 
 -- a shift keeps the bits that stay inside
@@ -193,27 +211,12 @@ module _ {A : Type 0} (f : ℕ → A) (s : List ℕ) where
   unfolding cells_at
   cells_at-push p w k = cells_at-append p w k 1
 
-  -- one cell more, written behind those before
-  pub fill-cell : (out : List A) (at p w k : ℕ) → at + k < length out → set (overwrite out at (cells_at f s p w k)) (at + k) (f (bits_at s (p + k * w) w)) ≡ overwrite out at (cells_at f s p w (k + 1))
-  fill-cell out at p w k room =
-      overwrite-push out at (cells_at f s p w k) (f (bits_at s (p + k * w) w)) k (length-cells_at p w k) room
-      ∙ ap (overwrite out at) (sym (cells_at-push p w k))
-
-  -- k cells more, written behind those before
-  pub fill-cells : (out : List A) (at p w j k : ℕ) → at + j ≤ length out → overwrite (overwrite out at (cells_at f s p w j)) (at + j) (cells_at f s (p + j * w) w k) ≡ overwrite out at (cells_at f s p w (j + k))
-  fill-cells out at p w j k room =
-      ap (λ n. overwrite (overwrite out at (cells_at f s p w j)) (at + n) (cells_at f s (p + j * w) w k)) (sym (length-cells_at p w j))
-      ∙ overwrite-overwrite out at (cells_at f s p w j) (cells_at f s (p + j * w) w k) (omega arith)
-      ∙ ap (overwrite out at) (sym (cells_at-append p w j k))
-
--- a turn of a loop that fills one cell after the other
-pub fill_more : {A : Type 0} (f : ℕ → A) (s : List ℕ) (o : List A) (at p w k : ℕ) {now : List A} (v : ℕ) {x : A} → now ≡ overwrite o at (cells_at f s p w k) → x ≡ f v → v ≡ bits_at s (p + k * w) w → at + k < length o → set now (at + k) x ≡ overwrite o at (cells_at f s p w (k + 1))
-fill_more f s o at p w k v inv is value room =
-    ap₂ (λ l y. set l (at + k) y) inv (is ∙ ap f value) ∙ fill-cell f s o at p w k room
-
-pub fill_none : {A : Type 0} (f : ℕ → A) (s : List ℕ) (o : List A) (at p w : ℕ) → o ≡ overwrite o at (cells_at f s p w 0)
-unfolding cells_at
-fill_none f s o at p w = sym (overwrite-none o at)
+  -- a turn of a loop that fills one cell after the other
+  pub fill_more : (p w k v : ℕ) (now : List A) {x : A} → take k now ≡ cells_at f s p w k → x ≡ f v → v ≡ bits_at s (p + k * w) w → k < length now → take (k + 1) (set now k x) ≡ cells_at f s p w (k + 1)
+  fill_more p w k v now {x} filled is value room =
+      take_more_set now k x room
+      ∙ ap₂ (λ l y. l ++ y ∷ []) filled (is ∙ ap f value)
+      ∙ sym (cells_at-push p w k)
 
 pub cells_at-drop : {A : Type 0} (f : ℕ → A) (s : List ℕ) (j p w k : ℕ) → cells_at f (drop j s) p w k ≡ cells_at f s (8 * j + p) w k
 unfolding cells_at
@@ -221,9 +224,22 @@ cells_at-drop f s j p w zero = refl
 cells_at-drop f s j p w (suc k) =
     ap₂ ◌∷◌ (ap f (bits_at-drop s j p w)) (cells_at-drop f s j (p + w) w k ∙ ap (λ x. cells_at f s x w k) (sym (add_assoc (8 * j) p w)))
 
+-- the first cells of the bytes from j on
+pub cells_at-rest : {A : Type 0} (f : ℕ → A) (s : List ℕ) (j w k : ℕ) → cells_at f (take (length s - j) (drop j s)) 0 w k ≡ cells_at f s (8 * j) w k
+cells_at-rest f s j w k =
+    ap (λ l. cells_at f l 0 w k) (take_rest s j)
+    ∙ cells_at-drop f s j 0 w k
+    ∙ ap (λ p. cells_at f s p w k) (add-zero (8 * j))
+
+-- where no cell is asked for, any place will do
+pub cells_from : {A : Type 0} (f : ℕ → A) (s : List ℕ) (p q w k : ℕ) → (0 < k → p ≡ q) → cells_at f s p w k ≡ cells_at f s q w k
+unfolding cells_at
+cells_from f s p q w zero same = refl
+cells_from f s p q w (suc k) same = ap (λ x. cells_at f s x w (suc k)) (same (suc-le-suc zero-le))
+
 -- a whole group of eight lies inside
-pub group-inside : (n w len group : ℕ) → 8 * (group + 1) ≤ n → n * w ≤ 8 * len → group * w + w ≤ len
-group-inside n w len group h room =
+pub group_inside : (n w len group : ℕ) → 8 * (group + 1) ≤ n → n * w ≤ 8 * len → group * w + w ≤ len
+group_inside n w len group h room =
     let some : 8 * (group + 1) * w ≤ n * w = mul-le-mul_right w h in
     let same : 8 * (group + 1) * w ≡ 8 * (group * w + w) = mul_assoc 8 (group + 1) w ∙ ap (λ x. 8 * x) (ap (λ x. x * w) (add-one group) ∙ suc-mul group w) in
     omega arith

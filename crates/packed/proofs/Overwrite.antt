@@ -1,7 +1,8 @@
 -- The laws of writing over a part of a list.
-use Rattle.std.proofs.Common.{◌≡◌, ℕ, suc, ◌+◌, ◌-◌, ◌<◌, ◌≤◌, min, List, [], ◌∷◌, ◌++◌, length, take, drop, set, sym, ap, ◌∙◌, ap₂, append_assoc, append-nil, add-zero, add_assoc, add-one, one-add, arith, length-append, length-drop, take-append-drop, length-take, length-take-le, drop-drop, take-suc-set, take_at, drop-set-lt, drop_at}
+use Rattle.std.proofs.Common.{◌≡◌, ℕ, suc, ◌+◌, ◌-◌, ◌<◌, ◌≤◌, min, List, [], ◌∷◌, ◌++◌, length, take, drop, set, sym, ap, ◌∙◌, ap₂, append_assoc, append-nil, add-zero, zero-add, add_assoc, add-one, one-add, arith, length-append, length-drop, take-append-drop, length-take, length-take-le, drop-drop, take-suc-set, take_at, drop-set-lt, drop_at}
+use borrow.Rule.Slice.PartMut.{put_mid}
 use Rattle.packed.specs.Bytes.{overwrite}
-use Rattle.std.proofs.lemmas.List.{drop_all}
+use Rattle.std.proofs.lemmas.List.{drop_all, take_rest}
 
 module _ {A : Type 0} (s : List A) (at : ℕ) where
   pub overwrite-none : overwrite s at [] ≡ s
@@ -60,6 +61,24 @@ overwrite-push s at xs x i e room =
     ∙ overwrite-set o (at + i) x [] (omega arith)
     ∙ ap (λ k. overwrite o (at + k) (x ∷ [])) (sym e)
     ∙ overwrite-overwrite s at xs (x ∷ []) (omega arith)
+
+-- a write to a part of a slice
+pub put_mid-overwrite : {A : Type 0} (s : List A) (at k : ℕ) (new : List A) → length new ≡ k → put_mid at k s new ≡ overwrite s at new
+unfolding overwrite
+put_mid-overwrite s at k new e =
+    sym (append_assoc (take at s) new (drop k (drop at s)))
+    ∙ ap (λ rest. take at s ++ new ++ rest) (drop-drop k at s ∙ ap (λ n. drop (at + n) s) (sym e))
+
+-- a write from the start of the part from a place on
+pub overwrite-rest : {A : Type 0} (s : List A) (at : ℕ) (new : List A) → put_mid at (length s - at) s (overwrite (take (length s - at) (drop at s)) 0 new) ≡ overwrite s at new
+unfolding overwrite
+overwrite-rest s at new =
+    let behind : drop (0 + length new) (take (length s - at) (drop at s)) ≡ drop (at + length new) s =
+    rw (take_rest s at, zero-add) (drop-drop (length new) at s) in
+    let none : drop (length s - at) (drop at s) ≡ [] = drop_all (length s - at) (drop at s) (simp length-drop (omega arith)) in
+    ap₂ (λ x y. take at s ++ (new ++ x ++ y)) behind none
+    ∙ ap (λ x. take at s ++ x) (append-nil (new ++ drop (at + length new) s))
+    ∙ sym (append_assoc (take at s) new (drop (at + length new) s))
 
 -- a write over the whole list
 pub overwrite-all : {A : Type 0} (s new : List A) → length new ≡ length s → overwrite s 0 new ≡ new

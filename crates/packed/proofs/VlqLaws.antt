@@ -1,5 +1,5 @@
 -- The laws of VLQ: a step of writing, a step of reading, and that each undoes the other.
-use Rattle.std.proofs.Common.{◌≡◌, ℕ, zero, suc, ◌+◌, ◌*◌, ◌/◌, ◌%◌, ◌^◌, ◌<◌, ◌≤◌, ◌⊎◌, List, [], ◌∷◌, ◌++◌, length, get_or, take, drop, Ok, Result, sym, refl, ap, ◌∙◌, subst, ap₂, inl, inr, ⊎_elim, suc-le-suc, zero-le, le_refl, lt_of_lt_of_le, not-suc-le-zero, add-zero, add_assoc, div-lt_iff_lt-mul, pow-suc, zero-add, add-one, arith, lit<, lit≤, pow_mono}
+use Rattle.std.proofs.Common.{◌≡◌, ℕ, zero, suc, ◌+◌, ◌-◌, ◌*◌, ◌/◌, ◌%◌, ◌^◌, ◌<◌, ◌≤◌, ◌⊎◌, List, [], ◌∷◌, ◌++◌, length, get_or, take, drop, Ok, Result, sym, refl, ap, ◌∙◌, subst, ap₂, inl, inr, ⊎_elim, suc-le-suc, zero-le, le_refl, lt_of_lt_of_le, not-suc-le-zero, add-zero, add_assoc, div-lt_iff_lt-mul, pow-suc, zero-add, add-one, arith, lit<, lit≤, pow_mono}
 use native.Mathlib.Nat.{pow-le-pow_right}
 use Rattle.packed.specs.Digits.{number}
 use Rattle.packed.specs.Bytes.{overwrite}
@@ -8,7 +8,7 @@ use Rattle.packed.specs.declared.faults.FaultKind.TheVariants.{VlqTooLarge, Data
 use Rattle.packed.proofs.Bytes.{power-bits}
 use Rattle.packed.proofs.Digits.{number_push, number-below}
 use Rattle.std.proofs.lemmas.Nat.{shl_whole}
-use Rattle.std.proofs.lemmas.List.{append_assoc, drop_at, take_at, length-append, length-drop, length-take, get_or-drop, length-take-le, drop_more, drop_all}
+use Rattle.std.proofs.lemmas.List.{append_assoc, drop_at, take_at, length-append, length-drop, length-take, get_or-drop, length-take-le, drop_more, drop_all, take_rest}
 use Rattle.packed.specs.declared.faults.Fault.{Fault}
 use Rattle.packed.specs.declared.faults.FaultKind.{FaultKind}
 use Rattle.std.proofs.lemmas.Bool.{lt-ltb, le-ltb, cases_lt}
@@ -92,6 +92,13 @@ module _ (s : List ℕ) (at : ℕ) where
   read-long-cut k h =
       let long : length (drop at s) ≤ 10 = simp length-drop (omega arith) in
       rw (le-ltb (continuing (drop at s)) 10 k, le-ltb 10 (length (drop at s)) long)
+
+-- a byte of the field that begins at a place
+pub field-byte : (s : List ℕ) (at i : ℕ) → get_or (take (length s - at) (drop at s)) i 0 ≡ get_or s (at + i) 0
+field-byte s at i = ap (λ l. get_or l i 0) (take_rest s at) ∙ get_or-drop at s i 0
+
+pub length-rest : (s : List ℕ) (at : ℕ) → length (take (length s - at) (drop at s)) ≡ length s - at
+length-rest s at = ap length (take_rest s at) ∙ length-drop at s
 
 -- one digit more of the number so far
 number_more : (s : List ℕ) (at i : ℕ) → at + i < length s → number 128 (take (i + 1) (drop at s)) ≡ number 128 (take i (drop at s)) + get_or s (at + i) 0 % 128 * 2 ^ (7 * i)

@@ -1,7 +1,8 @@
 //! The elements of a column: values that have a pattern of at most 64 bits, and that every pattern makes.
 ghost use Rattle.std.specs.Prelude.{◌≡◌, ℕ, ◌%◌, ◌^◌, ◌<◌, ◌≤◌, FitsSigned};
-ghost use Rattle.std.specs.Int.{w32, w64};
-ghost use Rattle.std.proofs.Common.{of_z, to_z, rules};
+ghost use Rattle.std.specs.Int.{w32, w64, cast_unsigned};
+ghost use Rattle.std.proofs.Common.{lit≤};
+ghost use Rattle.packed.specs.Patterns.{IsUnsigned, low_bits, signed_bits, unsigned_below, unsigned_makes, unsigned_wraps, signed_below, signed_makes, signed_wraps};
 
 /// A type of column elements, by its patterns.
 ///
@@ -43,19 +44,19 @@ impl Element for u8 {
 
     ghost WIDTH = { 8 };
 
-    ghost proper = { λ v. v < 2 ^ 8 };
+    ghost proper = { IsUnsigned 8 };
 
     ghost pattern = { λ v. v };
 
-    ghost made = { λ p. p % 2 ^ 8 };
+    ghost made = { low_bits 8 };
 
-    ghost narrow = { Prim.search rules };
+    ghost narrow = { (lit≤ tt, lit≤ tt) };
 
-    ghost below = { Prim.search rules };
+    ghost below = { unsigned_below 8 };
 
-    ghost makes = { Prim.search rules };
+    ghost makes = { unsigned_makes 8 };
 
-    ghost wraps = { Prim.search rules };
+    ghost wraps = { unsigned_wraps 8 };
 
     fn to_pattern(self) -> u64 {
         self as u64
@@ -71,19 +72,19 @@ impl Element for u16 {
 
     ghost WIDTH = { 16 };
 
-    ghost proper = { λ v. v < 2 ^ 16 };
+    ghost proper = { IsUnsigned 16 };
 
     ghost pattern = { λ v. v };
 
-    ghost made = { λ p. p % 2 ^ 16 };
+    ghost made = { low_bits 16 };
 
-    ghost narrow = { Prim.search rules };
+    ghost narrow = { (lit≤ tt, lit≤ tt) };
 
-    ghost below = { Prim.search rules };
+    ghost below = { unsigned_below 16 };
 
-    ghost makes = { Prim.search rules };
+    ghost makes = { unsigned_makes 16 };
 
-    ghost wraps = { Prim.search rules };
+    ghost wraps = { unsigned_wraps 16 };
 
     fn to_pattern(self) -> u64 {
         self as u64
@@ -99,19 +100,19 @@ impl Element for u32 {
 
     ghost WIDTH = { 32 };
 
-    ghost proper = { λ v. v < 2 ^ 32 };
+    ghost proper = { IsUnsigned 32 };
 
     ghost pattern = { λ v. v };
 
-    ghost made = { λ p. p % 2 ^ 32 };
+    ghost made = { low_bits 32 };
 
-    ghost narrow = { Prim.search rules };
+    ghost narrow = { (lit≤ tt, lit≤ tt) };
 
-    ghost below = { Prim.search rules };
+    ghost below = { unsigned_below 32 };
 
-    ghost makes = { Prim.search rules };
+    ghost makes = { unsigned_makes 32 };
 
-    ghost wraps = { Prim.search rules };
+    ghost wraps = { unsigned_wraps 32 };
 
     fn to_pattern(self) -> u64 {
         self as u64
@@ -127,19 +128,19 @@ impl Element for u64 {
 
     ghost WIDTH = { 64 };
 
-    ghost proper = { λ v. v < 2 ^ 64 };
+    ghost proper = { IsUnsigned 64 };
 
     ghost pattern = { λ v. v };
 
-    ghost made = { λ p. p % 2 ^ 64 };
+    ghost made = { low_bits 64 };
 
-    ghost narrow = { Prim.search rules };
+    ghost narrow = { (lit≤ tt, lit≤ tt) };
 
-    ghost below = { Prim.search rules };
+    ghost below = { unsigned_below 64 };
 
-    ghost makes = { Prim.search rules };
+    ghost makes = { unsigned_makes 64 };
 
-    ghost wraps = { Prim.search rules };
+    ghost wraps = { unsigned_wraps 64 };
 
     fn to_pattern(self) -> u64 {
         self
@@ -157,17 +158,17 @@ impl Element for i32 {
 
     ghost proper = { FitsSigned w32 };
 
-    ghost pattern = { of_z w32 };
+    ghost pattern = { cast_unsigned w32 };
 
-    ghost made = { λ p. to_z w32 (p % 2 ^ 32) };
+    ghost made = { signed_bits w32 32 };
 
-    ghost narrow = { Prim.search rules };
+    ghost narrow = { (lit≤ tt, lit≤ tt) };
 
-    ghost below = { Prim.search rules };
+    ghost below = { signed_below w32 };
 
-    ghost makes = { Prim.search rules };
+    ghost makes = { signed_makes w32 };
 
-    ghost wraps = { Prim.search rules };
+    ghost wraps = { signed_wraps w32 };
 
     fn to_pattern(self) -> u64 {
         self.cast_unsigned() as u64
@@ -185,17 +186,17 @@ impl Element for i64 {
 
     ghost proper = { FitsSigned w64 };
 
-    ghost pattern = { of_z w64 };
+    ghost pattern = { cast_unsigned w64 };
 
-    ghost made = { λ p. to_z w64 (p % 2 ^ 64) };
+    ghost made = { signed_bits w64 64 };
 
-    ghost narrow = { Prim.search rules };
+    ghost narrow = { (lit≤ tt, lit≤ tt) };
 
-    ghost below = { Prim.search rules };
+    ghost below = { signed_below w64 };
 
-    ghost makes = { Prim.search rules };
+    ghost makes = { signed_makes w64 };
 
-    ghost wraps = { Prim.search rules };
+    ghost wraps = { signed_wraps w64 };
 
     fn to_pattern(self) -> u64 {
         self.cast_unsigned()

@@ -4,11 +4,11 @@ ghost use Rattle.std.specs.Prelude.{◌≡◌};
 
 use std::fmt;
 
-/// What is wrong with a page.
+/// What is wrong with a page, by the number under which it is told.
 #[derive(Clone, Copy, Debug, PartialEq, Eq)]
 pub enum FaultKind {
     /// a VLQ does not fit 64 bits
-    VlqTooLarge,
+    VlqTooLarge = 7,
     /// the data ends inside a field
     DataEnds,
     /// a run stands for more than 2^31 - 1 values
@@ -58,18 +58,7 @@ impl Fault {
     pub fn number(&self) -> u8
         ensures { result ≡ (told self.now.kind).0 }
     {
-        match self.kind {
-            FaultKind::VlqTooLarge => 7,
-            FaultKind::DataEnds => 8,
-            FaultKind::RunTooLong => 9,
-            FaultKind::RepeatedValueCut => 10,
-            FaultKind::BadBlockSize => 11,
-            FaultKind::BadMiniBlocks => 12,
-            FaultKind::TotalTooLarge => 13,
-            FaultKind::ValueOutOfRange => 14,
-            FaultKind::MiniWidthTooLarge => 15,
-            FaultKind::TooFewValues => 16,
-        }
+        self.kind as u8
     }
 
     /// The layer that finds such a fault.

@@ -10,7 +10,7 @@ mod faults;
 mod vlq;
 mod zigzag;
 
-pub use bit_pack::{bits_at, unpack_groups, unpack8, unpack16, unpack32, unpack64};
+pub use bit_pack::{bits_at, unpack};
 pub use element::Element;
 pub use faults::{Fault, FaultKind, Layer};
 pub use vlq::{read_vlq, write_vlq};

@@ -14,14 +14,16 @@ pub fn write_vlq(out: &mut [u8], at: usize, v: u64) -> usize
     ensures fewest { (s : List ℕ) (p n : ℕ) → read_vlq s p ≡ Ok (v, n) → result ≤ n }
 {
     let mut rest = v;
-    let mut i = at;
-    while !is_last(rest) {
-        out[i] = 128 + (rest % 128) as u8;
+    let field = &mut out[at..];
+    for (i, byte) in field.iter_mut().enumerate() {
+        if is_last(rest) {
+            *byte = rest as u8;
+            return i + 1;
+        }
+        *byte = 128 + (rest % 128) as u8;
         rest /= 128;
-        i += 1;
     }
-    out[i] = rest as u8;
-    i + 1 - at
+    unreachable!()
 }
 
 // Whether a number is one digit, with none to follow.
@@ -38,49 +40,34 @@ pub fn read_vlq(page: &[u8], at: usize) -> Result<(u64, usize), Fault>
     ensures below { (n taken : ℕ) → result ≡ Ok (n, taken) → n < 2 ^ 64 }
     ensures within { (n taken : ℕ) → result ≡ Ok (n, taken) → at + taken ≤ length page.now }
 {
+    let field = &page[at..];
     let mut value: u64 = 0;
-    for i in 0..9 {
-        if page.len() - at <= i {
-            return Err(Fault {
-                kind: FaultKind::DataEnds,
-                place: at,
-            });
+    for (i, byte) in field.iter().enumerate() {
+        if i == 9 {
+            return read_tenth(page, at, value);
         }
-        let byte = page[at + i];
         value += ((byte % 128) as u64) << (7 * i);
-        if byte < 128 {
+        if *byte < 128 {
             return Ok((value, i + 1));
         }
     }
-    read_tenth(page, at, value)
+    Err(FaultKind::DataEnds.at(at))
 }
 
 // The tenth byte, behind nine that continue: of 64 bits one is left.
 fn read_tenth(page: &[u8], at: usize, low: u64) -> Result<(u64, usize), Fault>
-    requires { SoFar page.now at 9 low }
+    requires nine { SoFar page.now at 9 low }
+    requires tenth { at + 9 < length page.now }
     ensures { result ≡ read_vlq page.now at }
 {
-    let left = page.len() - at;
-    if left == 9 {
-        return Err(Fault {
-            kind: FaultKind::DataEnds,
-            place: at,
-        });
-    }
     let byte = page[at + 9];
     if fits_one_bit(byte) {
         return Ok((low + ((byte as u64) << 63), 10));
     }
-    if byte < 128 || left > 10 {
-        return Err(Fault {
-            kind: FaultKind::VlqTooLarge,
-            place: at,
-        });
+    if byte < 128 || at + 10 < page.len() {
+        return Err(FaultKind::VlqTooLarge.at(at));
     }
-    Err(Fault {
-        kind: FaultKind::DataEnds,
-        place: at,
-    })
+    Err(FaultKind::DataEnds.at(at))
 }
 
 fn fits_one_bit(byte: u8) -> bool

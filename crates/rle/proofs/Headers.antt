@@ -1,12 +1,13 @@
 -- What stands behind a header.
-use Rattle.std.proofs.Common.{◌≡◌, ℕ, ◌+◌, ◌*◌, ◌/◌, ◌%◌, ◌≤◌, min, Bool, true, false, cond, eqb, ltb, leb, List, length, Some, None, Ok, Err, Option, Result, refl}
+use Rattle.std.proofs.Common.{◌≡◌, ℕ, ◌+◌, ◌*◌, ◌/◌, ◌%◌, ◌≤◌, min, Bool, true, false, cond, eqb, ltb, leb, List, length, Some, None, Ok, Err, Option, Result, refl, ap, ◌∙◌}
 use Rattle.std.proofs.lemmas.Bool.{cond_both, leb-true}
 use Rattle.packed.specs.Bytes.{bits_at}
+use Rattle.packed.specs.Vlq.{read_vlq}
 use Rattle.packed.specs.declared.faults.Fault.{Fault}
 use Rattle.packed.specs.declared.faults.FaultKind.TheVariants.{RunTooLong, RepeatedValueCut}
 use Rattle.bit_reader.specs.Reader.{readable}
 use Rattle.rle.specs.Found.{header_of}
-use Rattle.rle.specs.Reading.{Stand, ended, stopped, repeats, packs, stop, ends_page, headed, headed_at, repeated_at, packed_at}
+use Rattle.rle.specs.Reading.{Stand, ended, stopped, repeats, packs, stop, ends_page, headed, headed_at, repeated_at, packed_at, run_at}
 use Rattle.rle.specs.Runs.{value_bytes}
 
 -- by the header, if there is one
@@ -19,16 +20,13 @@ cut-or-fault : (w : ℕ) (s : List ℕ) (at : ℕ) (f : Fault) (t : Bool) → co
 cut-or-fault w s at f true = refl
 cut-or-fault w s at f false = refl
 
-pub headed_of : (w : ℕ) (s : List ℕ) (at : ℕ) (r : Result (ℕ × ℕ) Fault) → headed w s at r ≡ headed_by w s at (header_of r)
+headed_of : (w : ℕ) (s : List ℕ) (at : ℕ) (r : Result (ℕ × ℕ) Fault) → headed w s at r ≡ headed_by w s at (header_of r)
 unfolding headed
 headed_of w s at (Ok r) = refl
 headed_of w s at (Err f) = cut-or-fault w s at f (ends_page f.kind)
 
--- how many bytes a header takes
-abbrev pub taken_of : Result (Option (ℕ × ℕ)) Fault → ℕ
-taken_of (Ok (Some r)) = r.1
-taken_of (Ok None) = 0
-taken_of (Err f) = 0
+pub run-by-header : (w : ℕ) (s : List ℕ) (at : ℕ) {h : Result (Option (ℕ × ℕ)) Fault} → header_of (read_vlq s at) ≡ h → run_at w s at ≡ headed_by w s at h
+run-by-header w s at is = headed_of w s at (read_vlq s at) ∙ ap (headed_by w s at) is
 
 -- a fact of whatever can stand behind a header
 module _ (w : ℕ) (s : List ℕ) (at : ℕ) (P : Stand → Type 0) (end : P ended) (fault : (f : Fault) → P (stopped f)) where

@@ -6,6 +6,5 @@ pub mod ReadBack
 pub mod Small
 pub mod Splitting
 pub mod Standing
-pub mod Stored
 pub mod VlqLength
 pub mod Writing

@@ -2,6 +2,7 @@
 use Rattle.std.proofs.Common.{◌≡◌, ℕ, zero, suc, ◌+◌, ◌-◌, ◌%◌, ◌^◌, ◌<◌, ◌≤◌, true, false, cond, eqb, ltb, List, [], ◌∷◌, ◌++◌, length, replicate, sym, refl, ap, ◌∙◌, subst, ap₂, ⊎_elim, suc-le-suc, zero-le, not-suc-le-zero, add-zero, zero-add, arith, lit<, lit≤, length-append, pow_pos}
 use lib.ListN.{length-replicate}
 use Rattle.std.specs.List.{flat_map, AllByRecursion}
+use Rattle.std.proofs.lemmas.Grind.{flat_map-append}
 use Rattle.std.proofs.lemmas.List.{append_assoc, append-nil, length_push, replicate_more}
 use Rattle.std.proofs.ByRecursion.{All-push, All-append, All-weaker}
 use lib.Arith.{lt_of_le-ne}
@@ -18,12 +19,8 @@ held (gathering rs g) = values_in rs ++ g
 held (packing rs p g) = values_in rs ++ (p ++ g)
 held (repeating rs n v) = values_in rs ++ replicate n v
 
-pub joined-append : {X A : Type 0} (f : X → List A) (xs ys : List X) → flat_map f (xs ++ ys) ≡ flat_map f xs ++ flat_map f ys
-joined-append f [] ys = refl
-joined-append f (x ∷ xs) ys = ap (λ l. f x ++ l) (joined-append f xs ys) ∙ sym (append_assoc (f x) (flat_map f xs) (flat_map f ys))
-
 pub joined-push : {X A : Type 0} (f : X → List A) (xs : List X) (x : X) → flat_map f (xs ++ x ∷ []) ≡ flat_map f xs ++ f x
-joined-push f xs x = joined-append f xs (x ∷ []) ∙ ap (λ l. flat_map f xs ++ l) (append-nil (f x))
+joined-push f xs x = flat_map-append f xs (x ∷ []) ∙ ap (λ l. flat_map f xs ++ l) (append-nil (f x))
 
 -- a group of equal values is its value repeated
 equal-group : (v : ℕ) (g : List ℕ) → all_equal v g ≡ true → g ≡ replicate (length g) v
@@ -231,7 +228,7 @@ pub state-sound : (w : ℕ) (l : List ℕ) → Below w l → Sound w (length l) 
 state-sound w l below =
     subst (λ n. Sound w n (state l)) (zero-add (length l)) (steps-sound w 0 (gathering [] []) l below (tt, zero-le, tt, lit< tt))
 
-zeros-below : (w k : ℕ) → Below w (replicate k 0)
+pub zeros-below : (w k : ℕ) → Below w (replicate k 0)
 zeros-below w zero = tt
 zeros-below w (suc k) = (pow_pos w, zeros-below w k)
 

@@ -1,4 +1,6 @@
 //! The bytes of one run or group, before they go into a page.
+//!
+//! A width stays a plain number: a type for those of at most 64 bits would be taken apart again in each of these functions.
 ghost use Rattle.std.specs.Prelude.{◌≡◌, ◌+◌, ◌^◌, ◌<◌, ◌≤◌, length, take};
 ghost use Rattle.bit_writer.specs.Writer.{AllFit};
 ghost use Rattle.rle.specs.Runs.{bytes_of, repeated, value_bytes};

@@ -1,6 +1,3 @@
-mod Answering
-mod First
-mod Loading
 mod Opened
-mod Passing
-mod Turns
+mod Runs
+mod Taking

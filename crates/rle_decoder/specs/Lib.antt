@@ -1,1 +1,4 @@
 pub mod Decoder
+pub mod Pages
+pub mod Run
+pub mod Small

@@ -3,15 +3,9 @@ use Rattle.bit_reader.specs.Reader.{page}
 use Rattle.packed.specs.Vlq.{read_vlq, number_of, taken_of}
 use Rattle.bit_reader.proofs.BitReader.take_vlq.Goals as goal
 
-pub overflow_add-self : goal.overflow_add-self
-overflow_add-self c =
-    let inside = c.read_vlq.ensures.within c.in_ok-value.value c.in_ok-value.taken c.in_ok-value.was in
-    record { fits = omega arith }
-
 pub returns : goal.returns
 returns c =
     let r = c.args.self.now in
-    let inside = c.read_vlq.ensures.within c.in_ok-value.value c.in_ok-value.taken c.in_ok-value.was in
     let read : read_vlq (page r) r.byte_offset ≡ Ok (c.in_ok-value.value, c.in_ok-value.taken) = sym c.read_vlq.ensures.value ∙ c.in_ok-value.was in
     let taken = ap taken_of read in
     record {
@@ -19,7 +13,6 @@ returns c =
       moved =
           record {
             same = refl;
-            to = omega (arith, taken, c.requires.1);
-            inside = record { bit = omega (arith, c.requires.1); within = omega (arith, inside, c.requires.1) };
+            to = omega (arith, taken);
           };
     }

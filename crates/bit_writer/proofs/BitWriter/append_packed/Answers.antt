@@ -1,4 +1,4 @@
-use Rattle.std.proofs.Common.{◌≡◌, suc, ◌+◌, ◌*◌, ◌^◌, ◌≤◌, length, take, sym, ap, ◌∙◌, subst, mul-le-mul_right, suc-mul, zero-mul, arith}
+use Rattle.std.proofs.Common.{◌≡◌, ◌+◌, ◌*◌, ◌^◌, length, take, sym, ap, ◌∙◌, subst, zero-mul, arith}
 use Rattle.std.proofs.lemmas.List.{take_all}
 use Rattle.packed.specs.Bytes.{bits_at}
 use Rattle.packed.specs.Digits.{number}
@@ -13,18 +13,6 @@ unfolding number
 loop-v-init c =
     let w = c.args.self.now in
     subst (PutBits w w 0) (sym (zero-mul c.args.num_bits)) (put_none w c.requires.none)
-
-pub put_value-requires : goal.put_value-requires
-put_value-requires c =
-    let w = c.args.num_bits in
-    let i = c.loop-v.v-index in
-    let p = c.loop-v.invariant in
-    let some : suc i * w ≤ length c.args.values.now * w = mul-le-mul_right w (omega arith) in
-    record {
-      width = c.requires.width;
-      fits = c.requires.fits i (omega arith);
-      room = omega (arith, p.place, p.count, p.room, suc-mul i w, c.requires.room);
-    }
 
 pub loop-v-preserved : goal.loop-v-preserved
 loop-v-preserved c =

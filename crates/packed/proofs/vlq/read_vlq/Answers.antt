@@ -1,5 +1,5 @@
-use Rattle.std.proofs.Common.{◌≡◌, ℕ, ◌+◌, ◌^◌, ◌<◌, ◌≤◌, List, length, Ok, Result, sym, ap, ◌∙◌, subst, arith}
-use Rattle.packed.proofs.VlqLaws.{so-far-none, so_far_more, shifted, value-below, read_here, ends-here, read_below, read-within}
+use Rattle.std.proofs.Common.{◌≡◌, ℕ, ◌+◌, ◌^◌, ◌<◌, ◌≤◌, List, length, Ok, Err, Result, sym, ap, ◌∙◌, subst, arith}
+use Rattle.packed.proofs.VlqLaws.{so-far-none, so_far_more, shifted, value-below, field-byte, length-rest, read_here, ends-here, read_below, read-within}
 use Rattle.packed.specs.Vlq.{SoFar, read_vlq}
 use Rattle.packed.specs.declared.faults.Fault.{Fault}
 use Rattle.packed.proofs.vlq.read_vlq.Goals as goal
@@ -13,38 +13,53 @@ told s at e =
     }
 
 pub loop-i-init : goal.loop-i-init
-loop-i-init c = so-far-none c.args.page.now c.args.at c.requires
+loop-i-init c = (so-far-none c.args.page.now c.args.at c.requires, omega arith)
 
-pub returns-then-page-at : goal.returns-then-page-at
-returns-then-page-at c = told c.args.page.now c.args.at (sym (ends-here c.args.page.now c.args.at c.loop-i.i c.loop-i.value c.loop-i.invariant (omega arith) (omega arith)))
+pub returns-then-i-eq9 : goal.returns-then-i-eq9
+returns-then-i-eq9 c = told c.args.page.now c.args.at c.read_tenth.ensures
 
 pub overflow_add-value : goal.overflow_add-value
 overflow_add-value c =
     let room : c.args.at + c.loop-i.i < length c.args.page.now = omega arith in
-    let e = shifted c.args.page.now c.args.at c.loop-i.i c.loop-i.value c.loop-i.invariant room c.loop-i-test.true in
-    let b = value-below c.args.page.now c.args.at c.loop-i.i c.loop-i.value c.loop-i.invariant room c.loop-i-test.true in
-    record { fits = omega (arith, e, b) }
+    let turn : c.loop-i.i < 9 = omega arith in
+    let e = shifted c.args.page.now c.args.at c.loop-i.i c.loop-i.value c.loop-i.invariant.0 room turn in
+    let b = value-below c.args.page.now c.args.at c.loop-i.i c.loop-i.value c.loop-i.invariant.0 room turn in
+    rw (field-byte c.args.page.now c.args.at c.loop-i.i) (record { fits = omega (arith, e, b) })
 
 pub returns-then-byte-lt128 : goal.returns-then-byte-lt128
 returns-then-byte-lt128 c =
-    let room : c.args.at + c.loop-i.i < length c.args.page.now = omega arith in
-    let e = shifted c.args.page.now c.args.at c.loop-i.i c.loop-i.value c.loop-i.invariant room c.loop-i-test.true in
-    told c.args.page.now c.args.at
-    (ap (λ x. Ok (c.loop-i.value + x, c.loop-i.i + 1)) e
-    ∙ sym (read_here c.args.page.now c.args.at c.loop-i.i c.loop-i.value c.loop-i.invariant room (omega arith) c.if-byte-lt128.true
-    (value-below c.args.page.now c.args.at c.loop-i.i c.loop-i.value c.loop-i.invariant room c.loop-i-test.true)))
+    let s = c.args.page.now in
+    let at = c.args.at in
+    let i = c.loop-i.i in
+    let room : at + i < length s = omega arith in
+    let turn : i < 9 = omega arith in
+    let e = shifted s at i c.loop-i.value c.loop-i.invariant.0 room turn in
+    let b = field-byte s at i in
+    told s at
+    (rw b
+    (ap (λ x. Ok (c.loop-i.value + x, i + 1)) e
+    ∙ sym (read_here s at i c.loop-i.value c.loop-i.invariant.0 room (omega arith) (omega (arith, b, c.if-byte-lt128.true))
+    (value-below s at i c.loop-i.value c.loop-i.invariant.0 room turn))))
 
 pub loop-i-preserved : goal.loop-i-preserved
 loop-i-preserved c =
-    let room : c.args.at + c.loop-i.i < length c.args.page.now = omega arith in
-    let e = shifted c.args.page.now c.args.at c.loop-i.i c.loop-i.value c.loop-i.invariant room c.loop-i-test.true in
-    subst (λ x. SoFar c.args.page.now c.args.at (c.loop-i.i + 1) (c.loop-i.value + x)) (sym e)
-    (so_far_more c.args.page.now c.args.at c.loop-i.i c.loop-i.value c.loop-i.invariant room c.if-byte-lt128.false)
-
-pub read_tenth-requires : goal.read_tenth-requires
-read_tenth-requires c =
-    let all : c.loop-i.i ≡ 9 = omega arith in
-    subst (λ i. SoFar c.args.page.now c.args.at i c.loop-i.value) all c.loop-i.invariant
+    let s = c.args.page.now in
+    let at = c.args.at in
+    let i = c.loop-i.i in
+    let room : at + i < length s = omega arith in
+    let turn : i < 9 = omega arith in
+    let e = shifted s at i c.loop-i.value c.loop-i.invariant.0 room turn in
+    let b = field-byte s at i in (
+      rw b
+          (subst (λ x. SoFar s at (i + 1) (c.loop-i.value + x)) (sym e)
+          (so_far_more s at i c.loop-i.value c.loop-i.invariant.0 room (omega (arith, b, c.if-byte-lt128.false)))),
+      omega arith,
+    )
 
 pub returns : goal.returns
-returns c = told c.args.page.now c.args.at c.read_tenth.ensures
+returns c =
+    let s = c.args.page.now in
+    let at = c.args.at in
+    let end : length s ≤ at + c.loop-i.i = omega (arith, length-rest s at) in
+    told s at
+    (ap Err c.at.ensures ∙ sym (ends-here s at c.loop-i.i c.loop-i.value c.loop-i.invariant.0 end (omega (arith, c.loop-i.invariant.1))))

@@ -1,6 +1,5 @@
-use Rattle.std.proofs.Common.{◌≡◌, replicate}
-use Rattle.packed.specs.Bytes.{overwrite}
+use Rattle.std.proofs.Common.{◌≡◌, replicate, take}
 use Rattle.rle_decoder.proofs.decoder.fill_cells.Given as goal
 
-abbrev pub invariant-loop-i : goal.invariant-loop-i
-invariant-loop-i g l = l.cells ≡ overwrite l.initial.cells l.at (replicate l.i l.value)
+abbrev pub invariant-loop-cell : goal.invariant-loop-cell
+invariant-loop-cell g l = take l.cell-index l.cells ≡ replicate l.cell-index l.value

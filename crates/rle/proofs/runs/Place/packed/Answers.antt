@@ -1,4 +1,4 @@
-use Rattle.std.proofs.Common.{◌≡◌, ◌+◌, ◌-◌, ◌*◌, ◌/◌, ◌<◌, ◌≤◌, min, ltb, length, sym, refl, ap, ◌∙◌, ap₂, mul_assoc, mul-le-mul, arith}
+use Rattle.std.proofs.Common.{◌≡◌, ◌+◌, ◌-◌, ◌*◌, ◌/◌, ◌<◌, min, ltb, length, sym, refl, ap, ◌∙◌, ap₂, mul_assoc, arith}
 use Rattle.std.proofs.lemmas.Bool.{lt-ltb, le-ltb, cond-true, cond-false}
 use Rattle.bit_reader.specs.Reader.{readable}
 use Rattle.bit_reader.proofs.Reading.{all_fit, some_fit, counted}
@@ -22,12 +22,6 @@ returns-then-left-groups c =
     (counted s (8 * start) w (8 * g) (8 * g) (8 * length s - 8 * start) (omega arith) refl (all_fit (8 * length s - 8 * start) w (8 * g) (omega arith))).count in
     let next : start + g * w ≡ min (start + g * w) (length s) = omega arith in
     ap₂ (λ m n. packs m start n) all next ∙ sym (cond-false (ltb 2147483647 (8 * g)) _ _ (le-ltb 2147483647 (8 * g) (omega arith)))
-
-pub overflow_mul-result-2 : goal.overflow_mul-result-2
-overflow_mul-result-2 c =
-    let groups : c.args.groups ≤ 268435455 = omega arith in
-    let most : c.args.groups * c.args.self.now.width ≤ 268435455 * 64 = mul-le-mul groups c.args.self.now.narrow in
-    record { fits = omega arith }
 
 pub returns : goal.returns
 unfolding packed_at

@@ -1,33 +1,28 @@
-use Rattle.std.proofs.Common.{◌≡◌, ◌+◌, ◌*◌, ◌/◌, ◌%◌, ◌≤◌, Some, ap, ◌∙◌, mul-le-mul_right, arith}
+use Rattle.std.proofs.Common.{◌≡◌, ◌+◌, ◌*◌, ◌/◌, ◌%◌, ◌∷◌, [], sym, ap, ◌∙◌, arith, rules}
 use Rattle.packed.specs.Bytes.{bits_at}
-use Rattle.rle_decoder.specs.Decoder.{current_of, page_of}
-use Rattle.rle_decoder.proofs.First.{packed-first, repeated-first, none_first}
-use Rattle.rle_decoder.proofs.Passing.{packed-length, packed-within}
+use Rattle.rle.specs.Reading.{packs, repeats}
+use Rattle.rle.specs.Found.{found}
+use Rattle.rle_decoder.specs.Decoder.{page_of, waiting_of}
+use Rattle.rle_decoder.proofs.Taking.{packed_next, repeated_next, first_is, cells-one}
 use Rattle.rle_decoder.proofs.decoder.RleDecoder.first.Goals as goal
 
-pub returns-then-left-eq0 : goal.returns-then-left-eq0
-returns-then-left-eq0 c =
+pub returns-in-Ok-Some-Packed : goal.returns-in-Ok-Some-Packed
+returns-in-Ok-Some-Packed c =
     let d = c.args.self.now in
-    none_first (current_of d) (packed-length d.width (page_of d) c.in-Packed.at c.in-Packed.left d.run c.in-Packed.is ∙ c.if-left-eq0.true)
+    let h = c.in-Ok-Some-Packed in
+    let stands : found d.run ≡ packs h.field-0-0-0 h.start h.field-0-0-2 = search rules in
+    let bit = c.bit_from-bit.result in
+    let place : 8 * (bit / 8) + bit % 8 ≡ 8 * h.start + d.taken * d.width = omega (arith, c.bit_from-bit.ensures) in
+    let is : bits_at (page_of d) (8 * h.start + d.taken * d.width) d.width ≡ c.bits_at.result =
+    sym (c.bits_at.ensures ∙ ap (λ p. bits_at (page_of d) p d.width) place) in
+    first_is (waiting_of d).values c.bits_at.result
+    (packed_next d h.field-0-0-0 h.start h.field-0-0-2 1 stands c.requires (λ v. v)
+    ∙ cells-one (page_of d) (8 * h.start + d.taken * d.width) d.width
+    ∙ ap (λ v. v ∷ []) is)
 
-pub bits_at-requires : goal.bits_at-requires
-bits_at-requires c =
+pub returns-in-Ok-Some-Repeated : goal.returns-in-Ok-Some-Repeated
+returns-in-Ok-Some-Repeated c =
     let d = c.args.self.now in
-    let at = c.in-Packed.at in
-    let one : 1 ≤ c.in-Packed.left = omega (arith, c.if-left-eq0.false) in
-    let some : 1 * d.width ≤ c.in-Packed.left * d.width = mul-le-mul_right d.width one in
-    let inside = packed-within d at c.in-Packed.left c.requires c.in-Packed.is in
-    (omega arith, (c.requires.width, omega (arith, some, inside)))
-
-pub returns-else-left-eq0 : goal.returns-else-left-eq0
-returns-else-left-eq0 c =
-    let d = c.args.self.now in
-    let at = c.in-Packed.at in
-    let place : 8 * (at / 8) + at % 8 ≡ at = omega arith in
-    ap Some (c.bits_at.ensures ∙ ap (λ p. bits_at (page_of d) p d.width) place)
-    ∙ packed-first d.width (page_of d) at c.in-Packed.left d.run c.in-Packed.is (omega (arith, c.if-left-eq0.false))
-
-pub returns-else-left-eq0-2 : goal.returns-else-left-eq0-2
-returns-else-left-eq0-2 c =
-    let d = c.args.self.now in
-    repeated-first d.width (page_of d) c.in-Repeated.value c.in-Repeated.left d.run c.in-Repeated.is (omega (arith, c.if-left-eq0-2.false))
+    let h = c.in-Ok-Some-Repeated in
+    let stands : found d.run ≡ repeats h.field-0-0-0 h.value h.field-0-0-2 = search rules in
+    first_is (waiting_of d).values h.value (repeated_next d h.field-0-0-0 h.value h.field-0-0-2 1 stands c.requires (λ v. v))

@@ -1,10 +1,9 @@
-use Rattle.std.proofs.Common.{◌≤◌}
-use Rattle.rle_decoder.proofs.Loading.{turns_left}
-use Rattle.rle_decoder.proofs.Turns.{Going}
+use Rattle.std.proofs.Common.{◌-◌, ◌≤◌}
+use Rattle.rle_decoder.specs.Decoder.{Took}
 use Rattle.rle_decoder.proofs.decoder.RleDecoder.pass_values.Given as goal
 
 abbrev pub invariant-loop-passed : goal.invariant-loop-passed
-invariant-loop-passed l = Going l.initial.self l.self l.passed × (l.passed ≤ l.count)
+invariant-loop-passed l = record { took : Took l.initial.self l.self l.passed; most : l.passed ≤ l.count }
 
 abbrev pub decreases-loop-passed : goal.decreases-loop-passed
-decreases-loop-passed l = turns_left l.self
+decreases-loop-passed l = l.count - l.passed

@@ -1,13 +1,23 @@
-use Rattle.std.proofs.Common.{sym, ◌∙◌}
-use Rattle.rle_decoder.specs.Decoder.{current_of}
-use Rattle.rle_decoder.proofs.Loading.{loaded-falls}
-use Rattle.rle_decoder.proofs.Turns.{going-loaded, no-values}
+use Rattle.std.proofs.Common.{◌≡◌, ◌<◌, Some, sym, ap₂, ◌∙◌, subst, rules, arith}
+use Rattle.rle.specs.Found.{found}
+use Rattle.rle_decoder.specs.Run.{next_of}
+use Rattle.rle_decoder.specs.Decoder.{page_of}
+use Rattle.rle_decoder.proofs.Runs.{turns_left, turns-fall}
+use Rattle.rle_decoder.proofs.Taking.{took_more, took_next}
 use Rattle.rle_decoder.proofs.decoder.RleDecoder.refill.Goals as goal
 
-pub loop-self-smaller : goal.loop-self-smaller
-loop-self-smaller c = loaded-falls c.loop-self.self c.load.new.self (sym c.if-not-is_over.ensures) c.load.ensures
+pub loop-count-smaller : goal.loop-count-smaller
+loop-count-smaller c =
+    let d = c.loop-count.self in
+    let loaded = c.load.ensures in
+    let leads : next_of (found d.run) ≡ Some c.next_after.result = search rules in
+    subst (λ n. n < turns_left (page_of d) (found d.run)) (sym (ap₂ turns_left loaded.page loaded.run))
+    (turns-fall d.width (page_of d) (found d.run) c.next_after.result leads)
 
-pub loop-self-preserved : goal.loop-self-preserved
-loop-self-preserved c =
-    let none = no-values (current_of c.loop-self.self) (sym c.run_left.ensures ∙ c.loop-self-test.true) in
-    going-loaded c.args.self.now c.loop-self.self c.load.new.self 0 c.loop-self.invariant (sym c.if-not-is_over.ensures) none c.load.ensures
+pub loop-count-preserved : goal.loop-count-preserved
+loop-count-preserved c =
+    let d = c.loop-count.self in
+    let loaded = c.load.ensures in
+    let leads : next_of (found d.run) ≡ Some c.next_after.result = search rules in
+    took_more c.args.self.now d c.load.new.self 0 0 0 (omega arith) c.loop-count.invariant
+    (took_next d c.load.new.self c.next_after.result loaded.page loaded.width loaded.run loaded.taken leads (sym c.left.ensures ∙ c.loop-count-test.true))

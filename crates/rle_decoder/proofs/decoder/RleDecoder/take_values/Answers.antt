@@ -1,60 +1,52 @@
-use Rattle.std.proofs.Common.{◌≡◌, ◌+◌, ◌-◌, ◌<◌, ◌≤◌, true, length, sym, ◌∙◌, subst, zero-le, arith}
-use Rattle.rle_decoder.specs.Decoder.{current_of, over, waits}
-use Rattle.rle_decoder.proofs.Loading.{turns_left, loaded-falls}
-use Rattle.rle_decoder.proofs.Turns.{going-none, going-passed, going-loaded, going-took, used-up, passed-turns, cells-none, cells-more}
+use Rattle.std.proofs.Common.{◌≡◌, ℕ, ◌+◌, ◌-◌, ◌≤◌, List, map, length, take, drop, sym, refl, ap, ◌∙◌, zero-le, zero-add, take-add, arith}
+use Rattle.std.proofs.lemmas.Grind.{common_steps}
+use Rattle.std.proofs.lemmas.List.{length-map, length-take, map-append}
+use borrow.Rule.Slice.PartMut.{put_mid}
+use Rattle.column.proofs.Parts.{length-part, overwrite-part}
+use Rattle.packed.specs.Bytes.{overwrite}
+use Rattle.packed.proofs.Overwrite.{overwrite-none, overwrite-overwrite}
+use Rattle.rle_decoder.specs.Decoder.{waiting_of}
+use Rattle.rle_decoder.proofs.Taking.{took_none, took_more}
 use Rattle.rle_decoder.proofs.decoder.RleDecoder.take_values.Goals as goal
-use Rattle.rle_decoder.proofs.decoder.RleDecoder.take_values.Goals.{then-taken-cells-via-then-taken-cells, then-taken-cells-via-else-taken-cells+then-is_over}
+
+pub returns-in_err-check_element-clause-cells : goal.returns-in_err-check_element-clause-cells
+returns-in_err-check_element-clause-cells g c = grind (arith, common_steps, overwrite-none)
 
 pub loop-taken-init : goal.loop-taken-init
-loop-taken-init g c =
-    (going-none c.args.self.now c.requires, zero-le, cells-none g.E.Element.made c.args.cells.now (waits c.args.self.now).values)
+loop-taken-init g c = record { took = took_none c.args.self.now; most = zero-le; cells = sym (overwrite-none c.args.cells.now 0) }
 
-pub returns-then-taken-cells : goal.returns-then-taken-cells
-returns-then-taken-cells g c =
-    let a = c.args.self.now in
-    let before = c.loop-taken.self in
-    let inv = c.loop-taken.invariant in
-    let m = length c.args.cells.now in
-    let k = c.loop-taken.taken in
-    let j = c.take_run-taken.result in
-    let now = c.take_run-taken.new.self in
-    let p = c.take_run-taken.ensures in
-    let some : j ≤ length (current_of before) = omega (arith, p.count) in
-    let most : k + j ≤ m = omega (arith, p.count, inv.1, c.loop-taken.auto.cells) in
-    let short : k + j < m → over now.run ≡ true =
-    λ fewer.
-    elim c.then-taken-cells.branch [
-      | then-taken-cells-via-then-taken-cells w ↦ absurd (let no : ⊥ = omega (arith, w.if-taken-cells.true, c.take_run-taken.auto.cells, c.loop-taken.auto.cells) in no)
-      | then-taken-cells-via-else-taken-cells+then-is_over w ↦ sym w.is_over.ensures ∙ w.if-is_over.true
-    ] in
-    record {
-      took = going-took a now m (k + j) (going-passed a before now k j inv.0 p.passed some) most short;
-      cells = p.cells ∙ cells-more g.E.Element.made c.args.cells.now c.loop-taken.cells a before k j inv.0 some inv.2;
-    }
-
-pub loop-taken-smaller : goal.loop-taken-smaller
-loop-taken-smaller g c =
-    let before = c.loop-taken.self in
-    let now = c.take_run-taken.new.self in
-    let more = sym c.if-is_over.ensures in
-    subst (λ n. turns_left c.load.new.self < n) (passed-turns before now c.take_run-taken.result c.take_run-taken.ensures.passed) (loaded-falls now c.load.new.self more c.load.ensures)
+-- j values behind the first k
+overwrite-more : {A : Type 0} (f : ℕ → A) (o now : List A) (vs : List ℕ) (k j : ℕ) → k ≤ length vs → now ≡ overwrite o 0 (map f (take k vs))
+    → overwrite now k (map f (take j (drop k vs))) ≡ overwrite o 0 (map f (take (k + j) vs))
+overwrite-more f o now vs k j some is =
+    let xs = map f (take k vs) in
+    let ys = map f (take j (drop k vs)) in
+    let long : 0 + length xs ≡ k = zero-add (length xs) ∙ length-map (take k vs) f ∙ length-take k vs ∙ omega arith in
+    ap (λ cells. overwrite cells k ys) is
+    ∙ ap (λ n. overwrite (overwrite o 0 xs) n ys) (sym long)
+    ∙ overwrite-overwrite o 0 xs ys zero-le
+    ∙ ap (overwrite o 0) (sym (map-append f (take k vs) (take j (drop k vs))) ∙ ap (map f) (sym (take-add k j vs)))
 
 pub loop-taken-preserved : goal.loop-taken-preserved
 loop-taken-preserved g c =
     let a = c.args.self.now in
-    let before = c.loop-taken.self in
     let inv = c.loop-taken.invariant in
-    let m = length c.args.cells.now in
+    let now = c.loop-taken.cells in
     let k = c.loop-taken.taken in
     let j = c.take_run-taken.result in
-    let now = c.take_run-taken.new.self in
-    let p = c.take_run-taken.ensures in
-    let some : j ≤ length (current_of before) = omega (arith, p.count) in
-    let most : k + j ≤ m = omega (arith, p.count, inv.1, c.loop-taken.auto.cells) in
-    let fewer : j < length c.loop-taken.cells - k = omega (arith, most, c.if-taken-cells.false, c.take_run-taken.auto.cells, c.loop-taken.auto.cells) in
-    let none = used-up before now j (length c.loop-taken.cells - k) p.passed p.count fewer in
-    let gone = going-passed a before now k j inv.0 p.passed some in (
-      going-loaded a now c.load.new.self (k + j) gone (sym c.if-is_over.ensures) none c.load.ensures,
-      most,
-      p.cells ∙ cells-more g.E.Element.made c.args.cells.now c.loop-taken.cells a before k j inv.0 some inv.2,
-    )
+    let made = g.E.Element.made in
+    let filled = took_more a c.loop-taken.self c.refill.new.self k 0 k (omega arith) inv.took c.refill.ensures.took in
+    let fits : k ≤ length now = omega (arith, inv.most, c.loop-taken.auto.cells) in
+    let left : (waiting_of c.refill.new.self).values ≡ drop k (waiting_of a).values = ap (λ r. r.values) filled.left in
+    let new = map made (take j (waiting_of c.refill.new.self).values) in
+    let short : length new ≤ length now - k = omega (arith, length-map (take j (waiting_of c.refill.new.self).values) made, length-take j (waiting_of c.refill.new.self).values, c.take_run-taken.ensures.count, length-part now k (length now - k) (omega arith)) in
+    let took = took_more a c.refill.new.self c.take_run-taken.new.self k j (k + j) refl filled c.take_run-taken.ensures.took in
+    record {
+      took = took;
+      most = omega (arith, inv.most, c.take_run-taken.ensures.count, c.loop-taken.auto.cells);
+      cells =
+          ap (put_mid k (length now - k) now) c.take_run-taken.ensures.cells
+          ∙ overwrite-part now k (length now - k) (omega arith) new short
+          ∙ ap (λ vs. overwrite now k (map made (take j vs))) left
+          ∙ overwrite-more made c.args.cells.now now (waiting_of a).values k j inv.took.most inv.cells;
+    }

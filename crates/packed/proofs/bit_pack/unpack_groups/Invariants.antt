@@ -1,6 +1,0 @@
-use Rattle.std.proofs.Common.{◌≡◌, ◌*◌}
-use Rattle.packed.specs.Bytes.{cells_at, overwrite}
-use Rattle.packed.proofs.bit_pack.unpack_groups.Given as goal
-
-abbrev pub invariant-loop-group : goal.invariant-loop-group
-invariant-loop-group g l = l.output ≡ overwrite l.initial.output l.at (cells_at g.T.Element.made l.input (8 * l.start) l.num_bits (8 * l.group))

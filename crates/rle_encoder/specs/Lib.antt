@@ -1,4 +1,3 @@
-pub mod Below
 pub mod Encoder
 pub mod Encoding
 pub mod Extending

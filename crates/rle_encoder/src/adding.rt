@@ -1,11 +1,15 @@
 //! Adding values to an encoder.
-ghost use Rattle.std.specs.Prelude.{◌≡◌, ◌+◌, ◌*◌, ◌^◌, ◌<◌, ◌≤◌, true, false, [], ◌∷◌, length, replicate, if◌then◌else◌, Err, ◌==◌, nat_eq};
+ghost use Rattle.std.specs.Prelude.{◌≡◌, ◌+◌, ◌*◌, ◌^◌, ◌<◌, ◌≤◌, true, false, [], ◌∷◌, if◌then◌else◌, Err, nat_eq};
+ghost use Rattle.arrayvec.specs.ArrayVec.{array_vec_len};
 ghost use Rattle.column.specs.Putting.{accepting, answered};
 ghost use Rattle.column.specs.declared.Refusal.{Refusal};
-ghost use Rattle.rle_encoder.specs.Encoder.{Added, RoomFor, accepted, again, alike_with, refusal, repeats, room, run_refusal};
+ghost use Rattle.rle_encoder.specs.Encoder.{Added, Fills, RoomFor, Takes, accepted, again, more, refusal, repeats, room, run_refusal, width};
+ghost use Rattle.rle_encoder.specs.Encoding.{equals, group_with, joins};
 ghost use Rattle.rle_encoder.specs.declared.phase.Phase.TheVariants.{Gathering, Packing, Repeating};
 
+use crate::finishing::padded_group;
 use crate::{Phase, RleEncoder};
+use arrayvec::ArrayVec;
 use column::{Element, Refusal};
 use rle::{group_bytes, repeated_bytes};
 
@@ -13,9 +17,10 @@ impl<'a> RleEncoder<'a> {
     /// Adds a value's pattern at the list's end. A refused value changes nothing.
     pub fn put<E: Element>(&mut self, v: E) -> Result<(), Refusal>
         ensures answer { result ≡ answered (refusal self.old (E.Element.pattern v)) }
-        ensures accepted { accepted self.new ≡ accepting (refusal self.old (E.Element.pattern v)) (accepted self.old) (E.Element.pattern v ∷ []) }
+        ensures accepted { accepted self.new
+            ≡ accepting (refusal self.old (E.Element.pattern v)) (accepted self.old) (E.Element.pattern v ∷ []) }
         ensures refused { (x : Refusal) → result ≡ Err x → self.new ≡ self.old }
-        ensures width { self.new.width ≡ self.old.width }
+        ensures width { width self.new ≡ width self.old }
         ensures room { room self.new ≡ room self.old }
         ensures lent { self.new.out.ghost_name ≡ self.old.out.ghost_name }
     {
@@ -28,9 +33,10 @@ impl<'a> RleEncoder<'a> {
     /// Adds the value that repeats `count` times more, as that many puts would. A refused call changes nothing.
     pub fn extend_run(&mut self, count: usize) -> Result<(), Refusal>
         ensures answer { result ≡ answered (run_refusal self.old count) }
-        ensures accepted { accepted self.new ≡ accepting (run_refusal self.old count) (accepted self.old) (again self.old count) }
+        ensures accepted { accepted self.new
+            ≡ accepting (run_refusal self.old count) (accepted self.old) (again self.old count) }
         ensures refused { (x : Refusal) → result ≡ Err x → self.new ≡ self.old }
-        ensures width { self.new.width ≡ self.old.width }
+        ensures width { width self.new ≡ width self.old }
         ensures room { room self.new ≡ room self.old }
         ensures lent { self.new.out.ghost_name ≡ self.old.out.ghost_name }
     {
@@ -40,170 +46,129 @@ impl<'a> RleEncoder<'a> {
     }
 
     fn add(&mut self, value: u64)
-        requires { (value < 2 ^ self.old.width) × (RoomFor self.old (value ∷ [])) }
-        ensures added { Added self.old self.new (value ∷ []) }
-        ensures lent { self.new.out.ghost_name ≡ self.old.out.ghost_name }
+        requires { Takes self.old value }
+        ensures { Added self.old self.new (value ∷ []) }
     {
-        match (self.phase, value == self.current) {
-            (Phase::Repeating { count: _ }, true) => self.extend(1),
+        match (self.progress.phase, self.progress.is_current(value)) {
+            (Phase::Repeating { .. }, true) => self.extend(1),
             (Phase::Repeating { count }, false) => self.close_run(count, value),
-            (Phase::Gathering, same) => self.gather(value, same),
-            (Phase::Packing { header, groups }, same) => self.gather_behind(
-                header, groups, value, same,
-            ),
+            (Phase::Gathering | Phase::Packing { .. }, same) => self.gather(value, same),
         }
     }
 
     // The value that repeats, `count` times more.
     fn extend(&mut self, count: usize)
-        requires { (repeats self.old.phase ≡ true) × (RoomFor self.old (replicate count self.old.current)) }
-        ensures added { Added self.old self.new (replicate count self.old.current) }
-        ensures lent { self.new.out.ghost_name ≡ self.old.out.ghost_name }
+        requires run { repeats self.old.progress.phase ≡ true }
+        requires room { RoomFor self.old (more self.old count) }
+        ensures { Added self.old self.new (more self.old count) }
     {
-        if let Phase::Repeating { count: before } = self.phase {
-            self.phase = Phase::Repeating {
+        if let Phase::Repeating { count: before } = self.progress.phase {
+            self.progress.phase = Phase::Repeating {
                 count: before + count,
             };
-            self.length += count;
+            self.progress.length += count;
         }
     }
 
     // The run ends, and another value is the first of a new group.
     fn close_run(&mut self, count: usize, value: u64)
-        requires { (self.old.phase ≡ Repeating count) × (((value == self.old.current) ≡ false) × ((value < 2 ^ self.old.width) × (RoomFor self.old (value ∷ [])))) }
-        ensures added { Added self.old self.new (value ∷ []) }
-        ensures lent { self.new.out.ghost_name ≡ self.old.out.ghost_name }
+        requires run { self.old.progress.phase ≡ Repeating count }
+        requires other { equals self.old.progress.same value ≡ false }
+        requires takes { Takes self.old value }
+        ensures { Added self.old self.new (value ∷ []) }
     {
-        let (bytes, taken) = repeated_bytes(count, self.current, self.width);
-        let place = self.written;
-        self.store(place, &bytes, taken);
-        self.written = place + taken;
-        self.phase = Phase::Gathering;
-        self.current = value;
-        self.alike = true;
-        self.gathered[0] = value;
-        self.collected = 1;
-        self.length += 1;
+        let run = repeated_bytes(count, self.progress.current(), self.progress.width);
+        self.progress.written = self.store(self.progress.written, run.as_slice());
+        self.progress.phase = Phase::Gathering;
+        self.progress.collect(value, true);
     }
 
-    // With no packed run open.
+    // One value more of a group, with a packed run open or none; the eighth settles what becomes of it.
     fn gather(&mut self, value: u64, same: bool)
-        requires { (self.old.phase ≡ Gathering) × ((same ≡ (value == self.old.current)) × ((value < 2 ^ self.old.width) × (RoomFor self.old (value ∷ [])))) }
-        ensures added { Added self.old self.new (value ∷ []) }
-        ensures lent { self.new.out.ghost_name ≡ self.old.out.ghost_name }
+        requires calm { repeats self.old.progress.phase ≡ false }
+        requires same { same ≡ equals self.old.progress.same value }
+        requires takes { Takes self.old value }
+        ensures { Added self.old self.new (value ∷ []) }
     {
-        let alike = self.alike_with(same);
-        if self.collected < 7 {
+        let alike = self.progress.alike_with(same);
+        if !self.progress.gathered.is_full() {
             self.collect(value, alike);
         } else if alike {
             self.begin_run(value);
         } else {
-            self.open_packed(value);
-        }
-    }
-
-    // Behind an open packed run.
-    fn gather_behind(&mut self, header: usize, groups: usize, value: u64, same: bool)
-        requires { (self.old.phase ≡ Packing header groups) × ((same ≡ (value == self.old.current)) × ((value < 2 ^ self.old.width) × (RoomFor self.old (value ∷ [])))) }
-        ensures added { Added self.old self.new (value ∷ []) }
-        ensures lent { self.new.out.ghost_name ≡ self.old.out.ghost_name }
-    {
-        let alike = self.alike_with(same);
-        if self.collected < 7 {
-            self.collect(value, alike);
-        } else if alike {
-            self.close_packed(header, groups, value);
-        } else {
-            self.extend_packed(header, groups, value);
+            self.pack(value);
         }
     }
 
     // One value more of a group that is not full.
     fn collect(&mut self, value: u64, alike: bool)
-        requires { (repeats self.old.phase ≡ false) × ((self.old.collected < 7) × ((alike ≡ alike_with self.old.collected self.old.alike (value == self.old.current)) × ((value < 2 ^ self.old.width) × (RoomFor self.old (value ∷ []))))) }
-        ensures added { Added self.old self.new (value ∷ []) }
-        ensures lent { self.new.out.ghost_name ≡ self.old.out.ghost_name }
+        requires calm { repeats self.old.progress.phase ≡ false }
+        requires few { array_vec_len self.old.progress.gathered < 7 }
+        requires alike { alike ≡ joins self.old.progress value }
+        requires takes { Takes self.old value }
+        ensures { Added self.old self.new (value ∷ []) }
     {
-        let at = self.collected;
-        self.current = first_of(at, self.current, value);
-        self.alike = alike;
-        self.gathered[at] = value;
-        self.collected = at + 1;
-        self.length += 1;
+        self.progress.collect(value, alike);
     }
 
-    // The eighth of eight equal values.
+    // The eighth of eight equal values. A packed run that is open ends with the group before.
     fn begin_run(&mut self, value: u64)
-        requires { (self.old.phase ≡ Gathering) × ((self.old.collected ≡ 7) × ((alike_with self.old.collected self.old.alike (value == self.old.current) ≡ true) × ((value < 2 ^ self.old.width) × (RoomFor self.old (value ∷ []))))) }
-        ensures added { Added self.old self.new (value ∷ []) }
-        ensures lent { self.new.out.ghost_name ≡ self.old.out.ghost_name }
+        requires { Fills self.old value true }
+        ensures { Added self.old self.new (value ∷ []) }
     {
-        self.phase = Phase::Repeating { count: 8 };
-        self.alike = true;
-        self.collected = 0;
-        self.length += 1;
+        self.write_header();
+        self.progress
+            .close_group(Phase::Repeating { count: 8 }, Some(value));
     }
 
-    // The same behind an open packed run, which ends with the group before.
-    fn close_packed(&mut self, header: usize, groups: usize, value: u64)
-        requires { (self.old.phase ≡ Packing header groups) × ((self.old.collected ≡ 7) × ((alike_with self.old.collected self.old.alike (value == self.old.current) ≡ true) × ((value < 2 ^ self.old.width) × (RoomFor self.old (value ∷ []))))) }
-        ensures added { Added self.old self.new (value ∷ []) }
-        ensures lent { self.new.out.ghost_name ≡ self.old.out.ghost_name }
+    // The eighth of eight values that are packed.
+    fn pack(&mut self, value: u64)
+        requires { Fills self.old value false }
+        ensures { Added self.old self.new (value ∷ []) }
     {
-        self.out[header] = header_of(groups);
-        self.phase = Phase::Repeating { count: 8 };
-        self.alike = true;
-        self.collected = 0;
-        self.length += 1;
+        if let Phase::Packing { header, groups } = self.progress.phase {
+            self.extend_packed(header, groups, value);
+        } else {
+            self.open_packed(value);
+        }
     }
 
-    // The eighth of eight values that begin a packed run. A byte before them is left for its header.
+    // They begin a packed run: a byte before them is left for its header.
     fn open_packed(&mut self, value: u64)
-        requires { (self.old.phase ≡ Gathering) × ((self.old.collected ≡ 7) × ((alike_with self.old.collected self.old.alike (value == self.old.current) ≡ false) × ((value < 2 ^ self.old.width) × (RoomFor self.old (value ∷ []))))) }
-        ensures added { Added self.old self.new (value ∷ []) }
-        ensures lent { self.new.out.ghost_name ≡ self.old.out.ghost_name }
+        requires phase { self.old.progress.phase ≡ Gathering }
+        requires fills { Fills self.old value false }
+        ensures { Added self.old self.new (value ∷ []) }
     {
-        let mut group = self.gathered;
-        group[7] = value;
-        let width = self.width;
-        let bytes = group_bytes(group, width);
-        let header = self.written;
-        self.store(header + 1, &bytes, width);
-        self.written = header + 1 + width;
-        self.phase = Phase::Packing { header, groups: 1 };
-        self.current = 0;
-        self.alike = true;
-        self.collected = 0;
-        self.length += 1;
+        let group = self.group_with(value);
+        let header = self.progress.written;
+        self.progress.written = self.store(header + 1, group.as_slice());
+        self.progress
+            .close_group(Phase::Packing { header, groups: 1 }, None);
     }
 
-    // The eighth of eight values that join the open packed run, which closes at 63 groups.
+    // They join the open packed run, which closes at 63 groups.
     fn extend_packed(&mut self, header: usize, groups: usize, value: u64)
-        requires { (self.old.phase ≡ Packing header groups) × ((self.old.collected ≡ 7) × ((alike_with self.old.collected self.old.alike (value == self.old.current) ≡ false) × ((value < 2 ^ self.old.width) × (RoomFor self.old (value ∷ []))))) }
-        ensures added { Added self.old self.new (value ∷ []) }
-        ensures lent { self.new.out.ghost_name ≡ self.old.out.ghost_name }
+        requires phase { self.old.progress.phase ≡ Packing header groups }
+        requires fills { Fills self.old value false }
+        ensures { Added self.old self.new (value ∷ []) }
     {
-        let mut group = self.gathered;
-        group[7] = value;
-        let width = self.width;
-        let bytes = group_bytes(group, width);
-        let place = self.written;
-        self.store(place, &bytes, width);
+        let group = self.group_with(value);
+        let end = self.store(self.progress.written, group.as_slice());
         self.out[header] = header_of(groups + 1);
-        self.written = place + width;
-        self.phase = open_run(header, groups + 1);
-        self.current = 0;
-        self.alike = true;
-        self.collected = 0;
-        self.length += 1;
+        self.progress.written = end;
+        self.progress
+            .close_group(open_run(header, groups + 1), None);
     }
-}
 
-// The first value of a group, when one more comes.
-fn first_of(collected: usize, current: u64, value: u64) -> u64
-    ensures { result ≡ (if nat_eq collected 0 then value else current) }
-{
-    if collected == 0 { value } else { current }
+    // The bytes of the seven collected values and one more as a packed group.
+    fn group_with(&self, value: u64) -> ArrayVec<u8, 64>
+        requires { Fills self.now value false }
+        ensures { result.items ≡ group_with self.now.progress value }
+    {
+        let mut group = padded_group(self.progress.gathered.as_slice());
+        group[7] = value;
+        group_bytes(group, self.progress.width)
+    }
 }
 
 // The header of a packed run of so many groups.

@@ -1,8 +1,8 @@
 //! What an encoder refuses.
-ghost use Rattle.std.specs.Prelude.{◌≡◌, ◌+◌, ◌*◌, ◌^◌, ◌<◌, ◌≤◌, [], ◌∷◌, ◌++◌, length, replicate, if◌then◌else◌, nat_lt};
+ghost use Rattle.std.specs.Prelude.{◌≡◌, ◌+◌, ◌*◌, ◌^◌, ◌<◌, ◌≤◌, [], ◌∷◌, ◌++◌, length, nat_lt};
 ghost use Rattle.rle.specs.Runs.{page, value_bytes};
 ghost use Rattle.packed.specs.Vlq.{vlq};
-ghost use Rattle.rle_encoder.specs.Encoder.{Admits, AdmitsRun, accepted, alike_with};
+ghost use Rattle.rle_encoder.specs.Encoder.{Admits, AdmitsRun, accepted, more, width};
 ghost use Rattle.rle_encoder.specs.declared.phase.Phase.TheVariants.{Repeating};
 
 use crate::{Phase, RleEncoder};
@@ -17,10 +17,10 @@ impl<'a> RleEncoder<'a> {
     pub(crate) fn admit(&self, pattern: u64) -> Result<(), Refusal>
         ensures { Admits self.now pattern result }
     {
-        if !fits_width(pattern, self.width) {
+        if !fits_width(pattern, self.progress.width) {
             return Err(Refusal::PatternTooWide);
         }
-        if self.length >= MOST {
+        if self.progress.length >= MOST {
             return Err(Refusal::ListTooLong);
         }
         if self.length_with(pattern) > self.out.len() {
@@ -33,10 +33,10 @@ impl<'a> RleEncoder<'a> {
     pub(crate) fn admit_run(&self, count: usize) -> Result<(), Refusal>
         ensures { AdmitsRun self.now count result }
     {
-        let Phase::Repeating { count: before } = self.phase else {
+        let Phase::Repeating { count: before } = self.progress.phase else {
             return Err(Refusal::NoRepeatingRun);
         };
-        if count > MOST - self.length {
+        if count > MOST - self.progress.length {
             return Err(Refusal::ListTooLong);
         }
         if self.length_of_run(before, count) > self.out.len() {
@@ -47,52 +47,43 @@ impl<'a> RleEncoder<'a> {
 
     // The page's length with one value more.
     fn length_with(&self, pattern: u64) -> usize
-        ensures { result ≡ length (page self.now.width (accepted self.now ++ pattern ∷ [])) }
+        ensures { result ≡ length (page (width self.now) (accepted self.now ++ pattern ∷ [])) }
     {
-        let bytes = value_bytes(self.width);
-        match (self.phase, pattern == self.current) {
+        let written = self.progress.written;
+        let width = self.progress.width;
+        let bytes = value_bytes(width);
+        match (self.progress.phase, self.progress.is_current(pattern)) {
             (Phase::Repeating { count }, true) => self.length_of_run(count, 1),
             (Phase::Repeating { count }, false) => self.length_of_run(count, 0) + 1 + bytes,
             (Phase::Gathering, same) => {
-                let group = either(self.alike_with(same), bytes, self.width);
-                self.written + 1 + group
+                if self.progress.alike_with(same) {
+                    written + 1 + bytes
+                } else {
+                    written + 1 + width
+                }
             }
-            (
-                Phase::Packing {
-                    header: _,
-                    groups: _,
-                },
-                same,
-            ) => {
-                let eighth = either(self.alike_with(same), 1 + bytes, self.width);
-                self.written + either(self.collected == 7, eighth, self.width)
+            (Phase::Packing { .. }, same) => {
+                if self.progress.gathered.is_full() && self.progress.alike_with(same) {
+                    written + 1 + bytes
+                } else {
+                    written + width
+                }
             }
         }
     }
 
     // The page's length if the value that repeats comes `count` times more.
     fn length_of_run(&self, before: usize, count: usize) -> usize
-        requires { (self.now.phase ≡ Repeating before) × (count ≤ 2147483647) }
-        ensures run { result ≡ length (page self.now.width (accepted self.now ++ replicate count self.now.current)) }
-        ensures value { result ≡ self.now.written + length (vlq (2 * (before + count))) + value_bytes self.now.width }
-        ensures short { result < 2 ^ 63 }
+        requires run { self.now.progress.phase ≡ Repeating before }
+        requires short { count ≤ 2147483647 }
+        ensures run { result ≡ length (page (width self.now) (accepted self.now ++ more self.now count)) }
+        ensures value { result
+            ≡ self.now.progress.written + length (vlq (2 * (before + count))) + value_bytes (width self.now) }
+        ensures small { result < 2 ^ 63 }
     {
-        self.written + vlq_length(2 * (before + count) as u64) + value_bytes(self.width)
+        let run = vlq_length(2 * (before + count) as u64) + value_bytes(self.progress.width);
+        self.progress.written + run
     }
-
-    // Whether the values that are collected are all equal, with one more that equals the first of them or not.
-    pub(crate) fn alike_with(&self, same: bool) -> bool
-        ensures { result ≡ alike_with self.now.collected self.now.alike same }
-    {
-        self.collected == 0 || self.alike && same
-    }
-}
-
-// One of two lengths.
-fn either(which: bool, yes: usize, no: usize) -> usize
-    ensures { result ≡ (if which then yes else no) }
-{
-    if which { yes } else { no }
 }
 
 // Whether a pattern has at most `width` bits.

@@ -1,9 +1,8 @@
 //! The encoder as one of the column codings.
 ghost use Rattle.std.proofs.Common.{le→leb};
 ghost use Rattle.rle_encoder.specs.Encoder.{state_of};
-ghost use Rattle.rle_encoder.specs.Keeping.{is-column};
+ghost use Rattle.rle_encoder.specs.Keeping.{kept-column};
 
-use crate::finishing::Rest;
 use crate::meaning::RlePages;
 use crate::{RleEncoder, RlePass};
 use column::{Element, Encoder, Pass, Refusal};
@@ -24,30 +23,14 @@ impl<'a> Encoder<'a> for RleEncoder<'a> {
     }
 
     fn finish(self) -> (usize, &'a mut [u8]) {
-        let RleEncoder {
-            out,
-            width,
-            length,
-            written,
-            phase,
-            current,
-            alike,
-            gathered,
-            collected,
-        } = self;
-        let rest = Rest {
-            width,
-            length,
-            written,
-            phase,
-            current,
-            alike,
-            gathered,
-            collected,
-        };
-        let end = rest.close(out);
+        let RleEncoder { out, progress } = self;
+        let end = progress.close(out);
         (end, out)
     }
 
-    ghost holds = { λ e. record { column = is-column e; allowed = le→leb e.width 64 e.narrow; fits = e.fits } };
+    ghost holds = { λ e. record {
+      column = kept-column e.kept;
+      allowed = le→leb e.progress.width 64 e.kept.narrow;
+      fits = e.kept.fits;
+    } };
 }

@@ -1,9 +1,10 @@
 //! Making an encoder.
-ghost use Rattle.std.specs.Prelude.{◌≡◌, ◌≤◌, [], length, nat_le};
+ghost use Rattle.std.specs.Prelude.{◌≡◌, ◌≤◌, [], length};
 ghost use Rattle.column.specs.Coding.{Checking};
-ghost use Rattle.rle_encoder.specs.Encoder.{accepted};
+ghost use Rattle.rle_encoder.specs.Encoder.{accepted, width as width_of};
 
-use crate::{Phase, RleEncoder, RlePages, RlePass};
+use crate::progress::Progress;
+use crate::{RleEncoder, RlePages, RlePass};
 use column::{Meaning, Pass, Refusal};
 
 impl<'a> RleEncoder<'a> {
@@ -18,7 +19,7 @@ impl<'a> RleEncoder<'a> {
     pub fn new(pass: RlePass, out: &'a mut [u8]) -> RleEncoder<'a>
         requires { length out.old ≡ pass.room }
         ensures accepted { accepted result ≡ [] }
-        ensures width { result.width ≡ pass.width }
+        ensures width { width_of result ≡ pass.width }
         ensures buffer { result.out.now ≡ out.old }
         ensures lent { result.out.ghost_name ≡ out.entry.ghost_name }
     {
@@ -29,40 +30,26 @@ impl<'a> RleEncoder<'a> {
     fn empty(width: usize, out: &'a mut [u8]) -> RleEncoder<'a>
         requires { width ≤ 64 }
         ensures accepted { accepted result ≡ [] }
-        ensures width { result.width ≡ width }
+        ensures width { width_of result ≡ width }
         ensures buffer { result.out.now ≡ out.old }
         ensures lent { result.out.ghost_name ≡ out.entry.ghost_name }
     {
         RleEncoder {
             out,
-            width,
-            length: 0,
-            written: 0,
-            phase: Phase::Gathering,
-            current: 0,
-            alike: true,
-            gathered: [0; 8],
-            collected: 0,
+            progress: Progress::new(width),
         }
     }
 }
 
-// Whether values have so many bits at most.
 // The pass for a width and a buffer's length.
 fn pass_for(width: u32, room: usize) -> Result<RlePass, Refusal>
     ensures { Checking ⟦<RlePass as Pass>⟧ ⟦<RlePages as Meaning>⟧ width room result }
 {
-    if !is_allowed(width) {
+    if !RlePages::has_width(width) {
         return Err(Refusal::BadWidth);
     }
     Ok(RlePass {
         width: width as usize,
         room,
     })
-}
-
-fn is_allowed(width: u32) -> bool
-    ensures { result ≡ nat_le width 64 }
-{
-    width <= 64
 }

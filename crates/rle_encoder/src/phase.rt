@@ -1,7 +1,7 @@
 //! What an encoder is at, between two values.
 
 /// Where the values go that are in no written run yet.
-#[derive(Clone, Copy)]
+#[derive(Debug, Clone, Copy, PartialEq, Eq)]
 pub enum Phase {
     /// they are collected, with no packed run open
     Gathering,

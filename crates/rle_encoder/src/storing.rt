@@ -1,19 +1,41 @@
-//! Storing bytes behind those that are written.
+//! Writing to an encoder's buffer.
 ghost use Rattle.std.specs.Prelude.{◌≡◌, ◌+◌, ◌≤◌, length, take};
-ghost use Rattle.rle_encoder.specs.Encoder.{Stored, accepted, room};
+ghost use Rattle.packed.specs.Bytes.{overwrite};
+ghost use Rattle.rle_encoder.specs.Encoder.{Unmoved, front, room};
 
-use crate::RleEncoder;
+use crate::adding::header_of;
+use crate::{Phase, RleEncoder};
 
 impl<'a> RleEncoder<'a> {
-    // The first `count` bytes, from a place behind those that are written.
-    pub(crate) fn store(&mut self, at: usize, bytes: &[u8], count: usize)
-        requires { (self.old.written ≤ at) × ((at + count ≤ room self.old) × (count ≤ length bytes.now)) }
-        ensures stored { Stored self.old self.new at (take count bytes.now) }
-        ensures accepted { accepted self.new ≡ accepted self.old }
-        ensures lent { self.new.out.ghost_name ≡ self.old.out.ghost_name }
+    // Bytes from a place on that is behind those that are written, and the place behind them.
+    pub(crate) fn store(&mut self, at: usize, bytes: &[u8]) -> usize
+        requires behind { self.old.progress.written ≤ at }
+        requires fits { at + length bytes.now ≤ room self.old }
+        ensures bytes { self.new.out.now ≡ overwrite self.old.out.now at bytes.now }
+        ensures unmoved { Unmoved self.old self.new }
+        ensures end { result ≡ at + length bytes.now }
     {
-        for i in 0..count {
-            self.out[at + i] = bytes[i];
+        write_bytes(self.out, at, bytes)
+    }
+
+    // The header of a packed run that is open, which ends here: the buffer then has all bytes that are written.
+    pub(crate) fn write_header(&mut self)
+        ensures front { take self.old.progress.written self.new.out.now ≡ front self.old }
+        ensures unmoved { Unmoved self.old self.new }
+    {
+        if let Phase::Packing { header, groups } = self.progress.phase {
+            self.out[header] = header_of(groups);
         }
     }
+}
+
+// Bytes over those from a place on, and the place behind them.
+pub(crate) fn write_bytes(out: &mut [u8], at: usize, bytes: &[u8]) -> usize
+    requires { at + length bytes.now ≤ length out.old }
+    ensures bytes { out.new ≡ overwrite out.old at bytes.now }
+    ensures end { result ≡ at + length bytes.now }
+{
+    let end = at + bytes.len();
+    out[at..end].copy_from_slice(bytes);
+    end
 }

@@ -1,36 +1,44 @@
-use Rattle.std.proofs.Common.{le_refl, arith, rules}
-use Rattle.rle_encoder.proofs.Added.{close-room, closed, run-facts}
-use Rattle.rle_encoder.proofs.Keeping.{stands-accepted, stands-facts}
+use Rattle.std.proofs.Common.{length, ap, ◌∙◌, arith}
+use Rattle.rle.specs.Runs.{bytes_of, repeated}
+use Rattle.rle_encoder.proofs.Added.{close-room, closed, only-run, run-facts}
+use Rattle.rle_encoder.proofs.Keeping.{stands-accepted, stands-kept}
 use Rattle.rle_encoder.proofs.RleEncoder.close_run.Goals as goal
 
-pub repeated_bytes-taken-requires : goal.repeated_bytes-taken-requires
-repeated_bytes-taken-requires c =
-    (c.args.self.now.narrow, omega (arith, (run-facts c.args.self.now c.args.count c.requires.0).1, c.args.self.now.short))
+pub repeated_bytes-run-requires-clause-count : goal.repeated_bytes-run-requires-clause-count
+repeated_bytes-run-requires-clause-count c = omega (arith, (run-facts c.args.self.now c.args.count c.requires.run).1, c.args.self.now.kept.short)
 
-pub store-requires : goal.store-requires
-store-requires c = (
-  le_refl _,
-  (
-    omega (arith, close-room c.args.self.now c.args.value c.requires.1.1.0 c.requires.1.1.1 c.args.count c.requires.0 c.requires.1.0, c.repeated_bytes-taken.ensures.taken),
-    search rules,
-  ),
-)
+pub store-self-requires-clause-fits : goal.store-self-requires-clause-fits
+store-self-requires-clause-fits c =
+    let e = c.args.self.now in
+    omega (
+      arith,
+      close-room e c.args.value c.requires.takes c.args.count c.requires.run c.requires.other,
+      ap length (c.as_slice.ensures.value ∙ c.repeated_bytes-run.ensures ∙ ap (λ v. bytes_of e.progress.width (repeated c.args.count v)) c.current.ensures),
+    )
+
+pub collect-requires-clause-few : goal.collect-requires-clause-few
+collect-requires-clause-few c =
+    omega (arith, ap length (ap (λ p. p.gathered.items) c.store-self.ensures.unmoved.progress_is ∙ only-run c.args.self.now c.args.count c.requires.run))
 
 pub invariant_of-self : goal.invariant_of-self
 invariant_of-self c =
-    stands-facts
-    (closed c.args.self.now c.args.value c.requires.1.1.0 c.requires.1.1.1 c.args.count c.repeated_bytes-taken.result.1 c.repeated_bytes-taken.result.0 c.store.new.self c.requires.0 c.requires.1.0
-    c.repeated_bytes-taken.ensures.bytes c.repeated_bytes-taken.ensures.taken c.store.ensures.stored c.store.ensures.accepted)
+    let e = c.args.self.now in
+    record {
+      kept = stands-kept
+          (closed e c.args.value c.requires.takes c.args.count c.store-self.new.self c.requires.run c.requires.other
+          (c.as_slice.ensures.value ∙ c.repeated_bytes-run.ensures ∙ ap (λ v. bytes_of e.progress.width (repeated c.args.count v)) c.current.ensures)
+          c.store-self.ensures.end c.store-self.ensures.bytes c.store-self.ensures.unmoved c.collect.ensures);
+    }
 
 pub returns : goal.returns
 returns c =
+    let e = c.args.self.now in
     record {
-      added = record {
-        accepted_is = stands-accepted
-            (closed c.args.self.now c.args.value c.requires.1.1.0 c.requires.1.1.1 c.args.count c.repeated_bytes-taken.result.1 c.repeated_bytes-taken.result.0 c.store.new.self c.requires.0 c.requires.1.0
-            c.repeated_bytes-taken.ensures.bytes c.repeated_bytes-taken.ensures.taken c.store.ensures.stored c.store.ensures.accepted);
-        width_is = c.store.ensures.stored.width_is;
-        room_is = c.store.ensures.stored.room_is;
-      };
-      lent = c.store.ensures.lent;
+      accepted_is = stands-accepted
+          (closed e c.args.value c.requires.takes c.args.count c.store-self.new.self c.requires.run c.requires.other
+          (c.as_slice.ensures.value ∙ c.repeated_bytes-run.ensures ∙ ap (λ v. bytes_of e.progress.width (repeated c.args.count v)) c.current.ensures)
+          c.store-self.ensures.end c.store-self.ensures.bytes c.store-self.ensures.unmoved c.collect.ensures);
+      width_is = ap (λ p. p.width) c.collect.ensures ∙ ap (λ p. p.width) c.store-self.ensures.unmoved.progress_is;
+      room_is = c.store-self.ensures.unmoved.room_is;
+      lent_is = c.store-self.ensures.unmoved.lent_is;
     }

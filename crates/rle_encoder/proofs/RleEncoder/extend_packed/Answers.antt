@@ -1,54 +1,43 @@
-use Rattle.std.proofs.Common.{ap, ◌∙◌, le_refl, arith, length-set, rules}
-use Rattle.rle_encoder.specs.Encoder.{repeats}
-use Rattle.rle_encoder.proofs.Added.{group-values, grow-room, grown, header-inside}
-use Rattle.rle_encoder.proofs.Keeping.{stands-accepted, stands-facts}
+use Rattle.std.proofs.Common.{[], ◌∷◌, ◌++◌, length, ap, ◌∙◌, arith, length-set}
+use Rattle.rle_encoder.proofs.Added.{grow-room, grown, header-inside, length-group}
+use Rattle.rle_encoder.proofs.Keeping.{stands-accepted, stands-kept}
 use Rattle.rle_encoder.proofs.RleEncoder.extend_packed.Goals as goal
 
-pub group_bytes-bytes-requires : goal.group_bytes-bytes-requires
-group_bytes-bytes-requires c =
-    (c.args.self.now.narrow, group-values c.args.self.now c.args.value c.requires.1.1.1.0 c.requires.1.1.1.1 c.requires.1.0 (ap repeats c.requires.0))
-
-pub store-requires : goal.store-requires
-store-requires c = (
-  le_refl _,
-  (
-    grow-room c.args.self.now c.args.value c.requires.1.1.1.0 c.requires.1.1.1.1 c.requires.1.0 c.requires.1.1.0 c.args.header c.args.groups c.requires.0,
-    search rules,
-  ),
-)
+pub store-end-requires-clause-fits : goal.store-end-requires-clause-fits
+store-end-requires-clause-fits c =
+    let e = c.args.self.now in
+    omega (
+      arith,
+      grow-room e c.args.value c.requires.fills c.args.header c.args.groups c.requires.phase,
+      ap length (c.as_slice.ensures.value ∙ c.group_with-group.ensures),
+      length-group e.progress.width (e.progress.gathered.items ++ c.args.value ∷ []),
+    )
 
 pub overflow_add-groups : goal.overflow_add-groups
-overflow_add-groups c =
-    omega (arith, (header-inside c.args.self.now c.args.value c.requires.1.1.1.0 c.requires.1.1.1.1 c.requires.1.0 c.args.header c.args.groups c.requires.0).1)
+overflow_add-groups c = omega (arith, (header-inside c.args.self.now c.args.header c.args.groups c.requires.phase).1)
 
 pub header_of-requires : goal.header_of-requires
-header_of-requires c =
-    (header-inside c.args.self.now c.args.value c.requires.1.1.1.0 c.requires.1.1.1.1 c.requires.1.0 c.args.header c.args.groups c.requires.0).1
+header_of-requires c = (header-inside c.args.self.now c.args.header c.args.groups c.requires.phase).1
 
 pub bounds-self-header : goal.bounds-self-header
 bounds-self-header c =
-    omega (
-      arith,
-      (header-inside c.args.self.now c.args.value c.requires.1.1.1.0 c.requires.1.1.1.1 c.requires.1.0 c.args.header c.args.groups c.requires.0).0,
-      c.args.self.now.inside,
-      c.store.ensures.stored.room_is,
-    )
+    omega (arith, (header-inside c.args.self.now c.args.header c.args.groups c.requires.phase).0, c.args.self.now.kept.inside, c.store-end.ensures.unmoved.room_is)
 
 pub invariant_of-self : goal.invariant_of-self
 invariant_of-self c =
-    stands-facts
-    (grown c.args.self.now c.args.value c.requires.1.1.1.0 c.requires.1.1.1.1 c.requires.1.0 c.requires.1.1.0 c.args.header c.args.groups c.requires.0 c.group_bytes-bytes.result c.store.new.self
-    c.group_bytes-bytes.ensures c.store.ensures.stored c.store.ensures.accepted c.header_of.ensures c.open_run-self.ensures)
+    record {
+      kept = stands-kept
+          (grown c.args.self.now c.args.value c.requires.fills c.args.header c.args.groups c.requires.phase c.store-end.new.self
+          (c.as_slice.ensures.value ∙ c.group_with-group.ensures) c.store-end.ensures.end c.store-end.ensures.bytes c.store-end.ensures.unmoved c.header_of.ensures c.open_run.ensures c.close_group.ensures);
+    }
 
 pub returns : goal.returns
 returns c =
     record {
-      added = record {
-        accepted_is = stands-accepted
-            (grown c.args.self.now c.args.value c.requires.1.1.1.0 c.requires.1.1.1.1 c.requires.1.0 c.requires.1.1.0 c.args.header c.args.groups c.requires.0 c.group_bytes-bytes.result c.store.new.self
-            c.group_bytes-bytes.ensures c.store.ensures.stored c.store.ensures.accepted c.header_of.ensures c.open_run-self.ensures);
-        width_is = c.store.ensures.stored.width_is;
-        room_is = length-set c.store.new.self.out.now c.args.header c.header_of.result ∙ c.store.ensures.stored.room_is;
-      };
-      lent = c.store.ensures.lent;
+      accepted_is = stands-accepted
+          (grown c.args.self.now c.args.value c.requires.fills c.args.header c.args.groups c.requires.phase c.store-end.new.self
+          (c.as_slice.ensures.value ∙ c.group_with-group.ensures) c.store-end.ensures.end c.store-end.ensures.bytes c.store-end.ensures.unmoved c.header_of.ensures c.open_run.ensures c.close_group.ensures);
+      width_is = ap (λ p. p.width) c.close_group.ensures ∙ ap (λ p. p.width) c.store-end.ensures.unmoved.progress_is;
+      room_is = length-set c.store-end.new.self.out.now c.args.header c.header_of.result ∙ c.store-end.ensures.unmoved.room_is;
+      lent_is = c.store-end.ensures.unmoved.lent_is;
     }

@@ -33,7 +33,7 @@ impl FromStr for Call {
 }
 
 /// What a call answered. Values stand here as their patterns.
-#[derive(Drop)]
+#[derive(Debug, PartialEq, Eq, Drop)]
 enum Taken {
     Got(Result<Option<u64>, Declined>),
     Filled {
@@ -65,7 +65,7 @@ impl fmt::Display for Taken {
 }
 
 /// How a declined call is said.
-#[derive(Clone, Copy)]
+#[derive(Clone, Copy, Debug, PartialEq, Eq)]
 struct Said(Declined);
 
 impl fmt::Display for Said {

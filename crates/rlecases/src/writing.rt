@@ -56,7 +56,7 @@ fn list(heap: Global, word: &str) -> Result<Vec<u64>, LineError> {
 }
 
 /// What the encoder answered.
-#[derive(Clone, Copy)]
+#[derive(Clone, Copy, Debug, PartialEq, Eq)]
 enum PutAnswer {
     One(Result<(), Refusal>),
     List(PutList),
@@ -128,7 +128,7 @@ fn put_one(encoder: &mut RleEncoder<'_>, kind: Kind, pattern: u64) -> Result<(),
 }
 
 /// A finished page: the first bytes of its buffer.
-#[derive(Clone, Copy)]
+#[derive(Clone, Copy, Debug, PartialEq, Eq)]
 struct Page<'a> {
     buffer: &'a [u8],
     length: usize,

@@ -6,7 +6,7 @@ ghost use Rattle.rle_decoder.specs.Run.{bits_end, count_of, next_of, value_of};
 use bit_reader::BitReader;
 use column::{Declined, Element, Fault, Refusal};
 use packed::bits_at;
-use rle::{Found, run_at};
+use rle::{Found, has_width, run_at};
 
 /// Reads the values of a page. It means the values that wait, and how they end.
 #[derive(Clone, Copy, Debug, PartialEq, Eq)]
@@ -41,16 +41,17 @@ impl<'a> RleDecoder<'a> {
         ensures standing { StandingIsRead width page.now }
         ensures lenient { ReadIsLenient width page.now }
     {
-        RleDecoder::open_page(page, width as usize)
+        RleDecoder::open_page(page, width)
     }
 
     // Reads the page's first run.
-    fn open_page(page: &'a [u8], width: usize) -> Result<RleDecoder<'a>, Declined>
+    fn open_page(page: &'a [u8], width: u32) -> Result<RleDecoder<'a>, Declined>
         ensures { Opening state_of (nat_le width 64) width page.now (reads width page.now) result }
     {
-        if !is_allowed(width) {
+        if !has_width(width) {
             return Err(Refusal::BadWidth.into());
         }
+        let width = width as usize;
         let run = run_at(page, width, 0)?;
         Ok(RleDecoder {
             page,
@@ -219,13 +220,6 @@ impl<'a> RleDecoder<'a> {
     {
         start as u128 * 8 + self.taken as u128 * self.width as u128
     }
-}
-
-// Whether the coding has a width.
-fn is_allowed(width: usize) -> bool
-    ensures { result ≡ nat_le width 64 }
-{
-    width <= 64
 }
 
 // Where the run behind another begins.

@@ -21,7 +21,7 @@ impl Meaning for RlePages {
     ghost reads = { λ w _ s. reads_as w s };
 
     fn has_width(width: u32) -> bool {
-        width <= 64
+        rle::has_width(width)
     }
 
     ghost widths_are_narrow = { λ w allowed. leb→le w 64 allowed };

@@ -29,12 +29,7 @@ impl<'a> RleEncoder<'a> {
     /// Drops the encoder unfinished. Which bytes its buffer then has is not promised, only how many (`Unfinished`).
     pub fn abandon(self)
         ensures { Unfinished (room self.entry) self.exit.0.now }
-    {
-        let RleEncoder {
-            out: _,
-            progress: _,
-        } = self;
-    }
+    {}
 }
 
 impl Progress {

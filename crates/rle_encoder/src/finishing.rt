@@ -1,11 +1,9 @@
 //! The end of an encoder: its buffer goes back.
-ghost use Rattle.std.specs.Prelude.{◌≡◌, ◌+◌, ◌^◌, ◌<◌, ◌≤◌, length, take};
-ghost use Rattle.std.specs.List.{AllByRecursion};
-ghost use Rattle.arrayvec.specs.ArrayVec.{array_vec_len};
+ghost use Rattle.std.specs.Prelude.{◌≡◌, ◌+◌, ◌≤◌, false, length, take};
 ghost use Rattle.column.specs.Putting.{Unfinished, finished};
 ghost use Rattle.rle.specs.Runs.{padded, page};
 ghost use Rattle.packed.specs.Bytes.{overwrite};
-ghost use Rattle.rle_encoder.specs.Encoder.{accepted, room, width};
+ghost use Rattle.rle_encoder.specs.Encoder.{accepted, repeats, room, width};
 ghost use Rattle.rle_encoder.specs.Encoding.{Kept, accepted_of, group_bytes, run_bytes};
 ghost use Rattle.rle_encoder.specs.Finishing.{Ended, Finished, StandsFor};
 
@@ -29,12 +27,7 @@ impl<'a> RleEncoder<'a> {
     /// Drops the encoder unfinished. Which bytes its buffer then has is not promised, only how many (`Unfinished`).
     pub fn abandon(self)
         ensures { Unfinished (room self.entry) self.exit.0.now }
-    {
-        let RleEncoder {
-            out: _,
-            progress: _,
-        } = self;
-    }
+    {}
 }
 
 impl Progress {
@@ -81,11 +74,12 @@ impl Progress {
 
     // The bytes of a run that repeats the current value, behind what is written, and the place behind them.
     fn write_run(&self, out: &mut [u8], count: usize) -> usize
-        requires narrow { self.now.width ≤ 64 }
+        requires kept { Kept self.now out.old }
         requires short { count ≤ 2147483647 }
         requires fits { self.now.written + length (run_bytes self.now count) ≤ length out.old }
         ensures bytes { out.new ≡ overwrite out.old self.now.written (run_bytes self.now count) }
         ensures end { result ≡ self.now.written + length (run_bytes self.now count) }
+        ensures kept { Kept self.now out.new }
     {
         let run = repeated_bytes(count, self.current(), self.width);
         write_bytes(out, self.written, run.as_slice())
@@ -93,12 +87,13 @@ impl Progress {
 
     // The bytes of the collected values as a packed group, and the place behind them.
     fn write_group(&self, out: &mut [u8], at: usize) -> usize
-        requires narrow { self.now.width ≤ 64 }
-        requires below { AllByRecursion (λ v. v < 2 ^ self.now.width) (padded self.now.gathered.items) }
-        requires few { array_vec_len self.now.gathered ≤ 7 }
+        requires kept { Kept self.now out.old }
+        requires calm { repeats self.now.phase ≡ false }
+        requires behind { self.now.written ≤ at }
         requires fits { at + self.now.width ≤ length out.old }
         ensures bytes { out.new ≡ overwrite out.old at (group_bytes self.now.width (padded self.now.gathered.items)) }
         ensures end { result ≡ at + self.now.width }
+        ensures kept { Kept self.now out.new }
     {
         let group = group_bytes(padded_group(self.gathered.as_slice()), self.width);
         write_bytes(out, at, group.as_slice())

@@ -1,10 +1,6 @@
-use Rattle.std.proofs.Common.{◌+◌, length, sym, ap, le_refl, arith, length-set}
+use Rattle.std.proofs.Common.{length, sym, le_refl, arith, length-set}
 use Rattle.std.proofs.lemmas.Bool.{eqb-true}
-use Rattle.rle.specs.Runs.{padded}
-use Rattle.rle_encoder.specs.Encoder.{repeats}
-use Rattle.rle_encoder.specs.Encoding.{group_bytes, run_bytes}
-use Rattle.rle_encoder.proofs.Added.{kept-over, length-group}
-use Rattle.rle_encoder.proofs.Closed.{count-bound, empty-ends, equal-ends, mixed-ends, no-value, open-ends, packed_ends, padded-values, positive, repeating-ends, some-value}
+use Rattle.rle_encoder.proofs.Closed.{count-bound, empty-ends, equal-ends, mixed-ends, no-value, open-ends, packed_ends, positive, repeating-ends, some-value}
 use Rattle.rle_encoder.proofs.Keeping.{kept-behind, kept-header, kept-stands}
 use Rattle.rle_encoder.proofs.progress.Progress.write_end.Goals as goal
 
@@ -22,7 +18,7 @@ returns-in-Repeating c =
     let ends = repeating-ends (kept-stands c.requires) c.in-Repeating.count c.in-Repeating.is in
     record {
       ended = ends.1 c.write_run.result c.write_run.new.out c.write_run.ensures.end c.write_run.ensures.bytes;
-      kept = kept-over p.written (run_bytes p c.in-Repeating.count) c.requires c.write_run.ensures.bytes (le_refl _) ends.0;
+      kept = c.write_run.ensures.kept;
     }
 
 -- ---- collected values, with no packed run open
@@ -37,9 +33,6 @@ bounds-out-self c =
     let p = c.args.self.now in
     omega (arith, (mixed-ends (kept-stands c.requires) c.in-Gathering.is (positive (length p.gathered.items) c.if-is_empty.ensures) (no-value p.same c.if-is_some.ensures)).0)
 
-pub write_group-requires-clause-below : goal.write_group-requires-clause-below
-write_group-requires-clause-below c = padded-values (kept-stands c.requires) (ap repeats c.in-Gathering.is)
-
 pub write_group-requires-clause-fits : goal.write_group-requires-clause-fits
 write_group-requires-clause-fits c =
     let p = c.args.self.now in
@@ -48,6 +41,9 @@ write_group-requires-clause-fits c =
       length-set c.args.out.now p.written c.header_of.result,
       (mixed-ends (kept-stands c.requires) c.in-Gathering.is (positive (length p.gathered.items) c.if-is_empty.ensures) (no-value p.same c.if-is_some.ensures)).0,
     )
+
+pub write_group-requires-clause-kept : goal.write_group-requires-clause-kept
+write_group-requires-clause-kept c = kept-behind c.args.self.now.written c.header_of.result c.requires (le_refl _)
 
 pub returns-then-is_empty : goal.returns-then-is_empty
 returns-then-is_empty c =
@@ -63,19 +59,17 @@ returns-then-is_some c =
     let ends = equal-ends (kept-stands c.requires) c.len.result one.0 c.len.ensures.value c.in-Gathering.is one.1 in
     record {
       ended = ends.1 c.write_run-then-is_some.result c.write_run-then-is_some.new.out c.write_run-then-is_some.ensures.end c.write_run-then-is_some.ensures.bytes;
-      kept = kept-over p.written (run_bytes p c.len.result) c.requires c.write_run-then-is_some.ensures.bytes (le_refl _) ends.0;
+      kept = c.write_run-then-is_some.ensures.kept;
     }
 
 pub returns-else-is_some : goal.returns-else-is_some
 returns-else-is_some c =
     let p = c.args.self.now in
     let byte = c.header_of.result in
-    let size = length-set c.args.out.now p.written byte in
     let ends = mixed-ends (kept-stands c.requires) c.in-Gathering.is (positive (length p.gathered.items) c.if-is_empty.ensures) (no-value p.same c.if-is_some.ensures) in
     record {
       ended = ends.1 c.write_group.result byte c.write_group.new.out c.write_group.ensures.end c.header_of.ensures c.write_group.ensures.bytes;
-      kept = kept-over (p.written + 1) (group_bytes p.width (padded p.gathered.items)) (kept-behind p.written byte c.requires (le_refl _)) c.write_group.ensures.bytes (omega arith)
-          (omega (arith, size, ends.0, length-group p.width (padded p.gathered.items)));
+      kept = c.write_group.ensures.kept;
     }
 
 -- ---- behind an open packed run
@@ -95,9 +89,6 @@ header_of-requires-else-is_empty-2 c = (open-ends (kept-stands c.requires) c.in-
 pub bounds-out-header-else-is_empty-2 : goal.bounds-out-header-else-is_empty-2
 bounds-out-header-else-is_empty-2 c = omega (arith, (open-ends (kept-stands c.requires) c.in-Packing.header c.in-Packing.groups c.in-Packing.is).0, c.requires.inside)
 
-pub write_group-requires-else-is_empty-2-clause-below : goal.write_group-requires-else-is_empty-2-clause-below
-write_group-requires-else-is_empty-2-clause-below c = padded-values (kept-stands c.requires) (ap repeats c.in-Packing.is)
-
 pub write_group-requires-else-is_empty-2-clause-fits : goal.write_group-requires-else-is_empty-2-clause-fits
 write_group-requires-else-is_empty-2-clause-fits c =
     let p = c.args.self.now in
@@ -106,6 +97,10 @@ write_group-requires-else-is_empty-2-clause-fits c =
       length-set c.args.out.now c.in-Packing.header c.header_of-else-is_empty-2.result,
       (packed_ends (kept-stands c.requires) c.in-Packing.header c.in-Packing.groups c.in-Packing.is (positive (length p.gathered.items) c.if-is_empty-2.ensures)).0,
     )
+
+pub write_group-requires-else-is_empty-2-clause-kept : goal.write_group-requires-else-is_empty-2-clause-kept
+write_group-requires-else-is_empty-2-clause-kept c =
+    kept-header c.header_of-else-is_empty-2.result c.requires c.in-Packing.is (open-ends (kept-stands c.requires) c.in-Packing.header c.in-Packing.groups c.in-Packing.is).0
 
 pub returns-then-is_empty-2 : goal.returns-then-is_empty-2
 returns-then-is_empty-2 c =
@@ -119,11 +114,8 @@ pub returns-else-is_empty-2 : goal.returns-else-is_empty-2
 returns-else-is_empty-2 c =
     let p = c.args.self.now in
     let byte = c.header_of-else-is_empty-2.result in
-    let size = length-set c.args.out.now c.in-Packing.header byte in
-    let early = (open-ends (kept-stands c.requires) c.in-Packing.header c.in-Packing.groups c.in-Packing.is).0 in
     let ends = packed_ends (kept-stands c.requires) c.in-Packing.header c.in-Packing.groups c.in-Packing.is (positive (length p.gathered.items) c.if-is_empty-2.ensures) in
     record {
       ended = ends.1 c.write_group-else-is_empty-2.result byte c.write_group-else-is_empty-2.new.out c.write_group-else-is_empty-2.ensures.end c.header_of-else-is_empty-2.ensures c.write_group-else-is_empty-2.ensures.bytes;
-      kept = kept-over p.written (group_bytes p.width (padded p.gathered.items)) (kept-header byte c.requires c.in-Packing.is early) c.write_group-else-is_empty-2.ensures.bytes (le_refl _)
-          (omega (arith, size, ends.0, length-group p.width (padded p.gathered.items)));
+      kept = c.write_group-else-is_empty-2.ensures.kept;
     }

@@ -1,5 +1,5 @@
 -- Puts, one after another.
-use Rattle.std.proofs.Common.{◌≡◌, ℕ, suc, ◌+◌, ◌^◌, ◌<◌, ◌≤◌, cond, ltb, leb, List, [], ◌∷◌, ◌++◌, length, get_or, map, take, drop, Some, None, Ok, Err, Option, sym, refl, ap, ◌∙◌, subst, zero-le, add-zero, add_assoc, zero-add, arith}
+use Rattle.std.proofs.Common.{◌≡◌, ℕ, suc, ◌+◌, ◌^◌, ◌<◌, ◌≤◌, cond, ltb, leb, List, [], ◌∷◌, ◌++◌, length, get_or, map, take, drop, Some, None, Ok, Err, Option, sym, refl, ap, ◌∙◌, subst, zero-le, add-zero, add_assoc, arith}
 use Rattle.std.proofs.ByRecursion.{All-push}
 use Rattle.std.proofs.lemmas.List.{append-nil, append_assoc, drop_more, drop_all, get_or-map, length-append, length-map, length_push, length-take-le, take_more}
 use Rattle.std.proofs.lemmas.Bool.{cond_both, leb-true, ltb-true}
@@ -32,43 +32,37 @@ pub was-refused : (u : Option Refusal) {r : Refusal} → answered u ≡ Err r �
 was-refused None {r} e = (cc)
 was-refused (Some q) {r} e = (cc)
 
-module _ (need : ℕ → List ℕ → ℕ) (s : EncoderState) (ps : List ℕ) where
-  pub none-put : PutsOn need s ps 0 s
-  none-put = record {
-    added = ap (with_list s) (sym (append-nil s.accepted));
-    rest = ap (λ n. record { count = n; refusal = (putting need s ps).refusal }) (sym (zero-add (putting need s ps).count));
+module _ (need : ℕ → List ℕ → ℕ) (s : EncoderState) (ps : List ℕ)
+    (i : ℕ) (now : EncoderState) (on : PutsOn need s ps i now) where
+  -- the next pattern, by whether it is refused
+  next-put : (p : ℕ) (u : Option Refusal) → i < length ps → get_or ps i 0 ≡ p → unput need now p ≡ u
+      → putting need s ps ≡ shifted i (counted u (putting need (with_more now (p ∷ [])) (drop (i + 1) ps)))
+  unfolding putting
+  next-put p u h is e =
+      on.rest
+      ∙ ap (λ xs. shifted i (putting need now xs)) (drop_more ps i 0 h)
+      ∙ ap (λ q. shifted i (putting need now (q ∷ drop (i + 1) ps))) is
+      ∙ ap (λ x. shifted i (counted x (putting need (with_more now (p ∷ [])) (drop (i + 1) ps)))) e
+
+  refused-at : (p : ℕ) (e : Refusal) → i < length ps → get_or ps i 0 ≡ p → unput need now p ≡ Some e → record { count = i; refusal = Some e } ≡ putting need s ps
+  refused-at p e h is u = ap (λ n. record { count = n; refusal = Some e }) (sym (add-zero i)) ∙ sym (next-put p (Some e) h is u)
+
+  more-at : (p : ℕ) → i < length ps → get_or ps i 0 ≡ p → unput need now p ≡ None → PutsOn need s ps (i + 1) (with_more now (p ∷ []))
+  more-at p h is u = record {
+    added =
+        ap (λ n. with_more n (p ∷ [])) on.added
+        ∙ ap (with_list s)
+        (append_assoc s.accepted (take i ps) (p ∷ [])
+        ∙ ap (λ q. s.accepted ++ (take i ps ++ q ∷ [])) (sym is)
+        ∙ ap (λ xs. s.accepted ++ xs) (sym (take_more ps i 0 h)));
+    rest =
+        next-put p None h is u
+        ∙ ap (λ n. record { count = n; refusal = (putting need (with_more now (p ∷ [])) (drop (i + 1) ps)).refusal }) (sym (add_assoc i 1 (putting need (with_more now (p ∷ [])) (drop (i + 1) ps)).count));
   }
 
-  module _ (i : ℕ) (now : EncoderState) (on : PutsOn need s ps i now) where
-    -- the next pattern, by whether it is refused
-    next-put : (p : ℕ) (u : Option Refusal) → i < length ps → get_or ps i 0 ≡ p → unput need now p ≡ u
-        → putting need s ps ≡ shifted i (counted u (putting need (with_more now (p ∷ [])) (drop (i + 1) ps)))
-    unfolding putting
-    next-put p u h is e =
-        on.rest
-        ∙ ap (λ xs. shifted i (putting need now xs)) (drop_more ps i 0 h)
-        ∙ ap (λ q. shifted i (putting need now (q ∷ drop (i + 1) ps))) is
-        ∙ ap (λ x. shifted i (counted x (putting need (with_more now (p ∷ [])) (drop (i + 1) ps)))) e
-
-    refused-at : (p : ℕ) (e : Refusal) → i < length ps → get_or ps i 0 ≡ p → unput need now p ≡ Some e → record { count = i; refusal = Some e } ≡ putting need s ps
-    refused-at p e h is u = ap (λ n. record { count = n; refusal = Some e }) (sym (add-zero i)) ∙ sym (next-put p (Some e) h is u)
-
-    more-at : (p : ℕ) → i < length ps → get_or ps i 0 ≡ p → unput need now p ≡ None → PutsOn need s ps (i + 1) (with_more now (p ∷ []))
-    more-at p h is u = record {
-      added =
-          ap (λ n. with_more n (p ∷ [])) on.added
-          ∙ ap (with_list s)
-          (append_assoc s.accepted (take i ps) (p ∷ [])
-          ∙ ap (λ q. s.accepted ++ (take i ps ++ q ∷ [])) (sym is)
-          ∙ ap (λ xs. s.accepted ++ xs) (sym (take_more ps i 0 h)));
-      rest =
-          next-put p None h is u
-          ∙ ap (λ n. record { count = n; refusal = (putting need (with_more now (p ∷ [])) (drop (i + 1) ps)).refusal }) (sym (add_assoc i 1 (putting need (with_more now (p ∷ [])) (drop (i + 1) ps)).count));
-    }
-
-    all-at : length ps ≤ i → record { count = i; refusal = None } ≡ putting need s ps
-    unfolding putting
-    all-at h = sym (on.rest ∙ ap (λ xs. shifted i (putting need now xs)) (drop_all i ps h) ∙ ap (λ n. record { count = n; refusal = None }) (add-zero i))
+  all-at : length ps ≤ i → record { count = i; refusal = None } ≡ putting need s ps
+  unfolding putting
+  all-at h = sym (on.rest ∙ ap (λ xs. shifted i (putting need now xs)) (drop_all i ps h) ∙ ap (λ n. record { count = n; refusal = None }) (add-zero i))
 
 -- the same of values with their patterns, by what their puts answered
 module _ {E : Type 0} (f : E → ℕ) (values : List E) (need : ℕ → List ℕ → ℕ) (s : EncoderState) (i : ℕ) (now : EncoderState) (on : PutsOn need s (map f values) i now) where

@@ -57,7 +57,7 @@ pub trait Decoder {
         ensures state { state self.new
             ≡ after_taking (taking count (state self.old).waiting) (state self.old) };
 
-    /// Each pattern that waits has at most 64 bits.
+    /// Each pattern that waits has at most 64 bits, and so has each that a call takes.
     ghost below: { (d : Self) → AllByRecursion (λ p. p < 2 ^ 64) (state d).waiting.values };
 }
 

@@ -58,7 +58,7 @@ impl Layout {
     pub fn fits(&self, value: u64) -> bool
         ensures { IsTrue result ↔ (value < 2 ^ self.now.width) }
     {
-        // No value can be shifted by 64. `checked_shr` and `is_none_or` are no plainer: they take an answer for each case.
+        // No value can be shifted by 64. `checked_shr` with `is_none_or` is no plainer, and not proved alone either.
         self.width == 64 || value >> self.width == 0
     }
 }

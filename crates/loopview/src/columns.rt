@@ -181,10 +181,10 @@ fn unpack_ticks(heap: Global, bytes: &[u8], count: usize) -> Result<Vec<i64>, Re
     let mut ticks = Vec::new(heap);
     let mut tick = 0;
     for good in 0..count {
-        match reader.get_zigzag_vlq_int() {
-            Ok(difference) => tick = tick_after(tick, difference),
-            Err(fault) => return Err(ReadError::Faulty { fault, good }),
-        }
+        let difference = reader
+            .get_zigzag_vlq_int()
+            .map_err(|fault| ReadError::Faulty { fault, good })?;
+        tick = tick_after(tick, difference);
         ticks.push(tick)?;
     }
     Ok(ticks)

@@ -221,15 +221,12 @@ pub fn parse(heap: Global, text: &str) -> Result<Vec<Reading>, ParseError>
         if line.is_empty() || line.starts_with('#') {
             continue;
         }
-        match parse_line(line) {
-            Ok(reading) => readings.push(reading)?,
-            Err(reason) => {
-                return Err(ParseError::BadLine {
-                    line: index + 1,
-                    reason,
-                });
-            }
-        }
+        let number = index + 1;
+        let reading = parse_line(line).map_err(|reason| ParseError::BadLine {
+            line: number,
+            reason,
+        })?;
+        readings.push(reading)?;
     }
     Ok(readings)
 }

@@ -53,14 +53,6 @@ impl Layout {
         }
         Ok(Layout { width, lead })
     }
-
-    /// Whether a value has at most `width` bits.
-    pub fn fits(&self, value: u64) -> bool
-        ensures { IsTrue result ↔ (value < 2 ^ self.now.width) }
-    {
-        // No value can be shifted by 64. `checked_shr` with `is_none_or` is no plainer, and not proved alone either.
-        self.width == 64 || value >> self.width == 0
-    }
 }
 
 /// The type of the cells that a batch is read into.

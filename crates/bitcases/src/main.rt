@@ -7,10 +7,8 @@ mod cases;
 mod trials;
 
 use std::io;
-use std::process::ExitCode;
 
-/// Answers each line of the standard input.
-fn run(rt: &HostRuntime) -> anyhow::Result<()> {
+fn main(rt: HostRuntime) -> io::Result<()> {
     let heap = rt.alloc();
     let text = io::read_to_string(heap, rt.stdin())?;
     for line in text.lines() {
@@ -23,12 +21,4 @@ fn run(rt: &HostRuntime) -> anyhow::Result<()> {
         }
     }
     Ok(())
-}
-
-fn main(rt: HostRuntime) -> ExitCode {
-    let Err(fault) = run(&rt) else {
-        return ExitCode::SUCCESS;
-    };
-    let _ = eprintln!(rt; "bitcases: {fault}");
-    ExitCode::FAILURE
 }

@@ -8,7 +8,7 @@ ghost use Rattle.packed.specs.Vlq.{read_vlq};
 
 use crate::answers::{Answer, VlqRead};
 use crate::cases::{Batch, Case, Cell, Layout, MOST_VALUES, Packing, Refusal};
-use bits::{BitReader, BitWriter, Element, from_zigzag, read_vlq, to_zigzag, write_vlq};
+use bits::{BitReader, BitWriter, Element, fits, from_zigzag, read_vlq, to_zigzag, write_vlq};
 use std::alloc::{AllocError, Global};
 
 /// The answer to the case of a line.
@@ -84,7 +84,7 @@ fn put_values(out: &mut [u8], layout: Layout, values: &[u64]) -> Result<usize, R
     let mut writer = BitWriter::new(out);
     writer.put_value(0, layout.lead);
     for v in values {
-        if !layout.fits(*v) {
+        if !fits(*v, layout.width) {
             return Err(Refusal::ValueTooLarge);
         }
         writer.put_value(*v, layout.width);

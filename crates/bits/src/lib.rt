@@ -6,5 +6,5 @@
 pub use bit_reader::BitReader;
 pub use bit_writer::BitWriter;
 pub use packed::{
-    Element, Fault, FaultKind, Layer, from_zigzag, read_vlq, to_zigzag, unpack, write_vlq,
+    Element, Fault, FaultKind, Layer, fits, from_zigzag, read_vlq, to_zigzag, unpack, write_vlq,
 };

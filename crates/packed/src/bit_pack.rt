@@ -1,5 +1,5 @@
 //! Packed values and the kernels that unpack them: whole words, shifts and masks, at a width that is known at run time.
-ghost use Rattle.std.specs.Prelude.{◌≡◌, ◌+◌, ◌*◌, ◌/◌, ◌%◌, ◌^◌, ◌<◌, ◌≤◌, length};
+ghost use Rattle.std.specs.Prelude.{◌≡◌, ◌+◌, ◌*◌, ◌/◌, ◌%◌, ◌^◌, ◌<◌, ◌≤◌, length, nat_lt};
 ghost use Rattle.packed.specs.Bytes.{bits_at, cells_at};
 
 use crate::element::Element;
@@ -54,6 +54,15 @@ fn load_rest(s: &[u8]) -> u64
     let mut bytes = [0; 8];
     bytes[..s.len()].copy_from_slice(s);
     u64::from_le_bytes(bytes)
+}
+
+/// Whether a value has at most `num_bits` bits.
+pub fn fits(v: u64, num_bits: usize) -> bool
+    requires { num_bits ≤ 64 }
+    ensures { result ≡ nat_lt v (2 ^ num_bits) }
+{
+    // No value can be shifted by 64.
+    num_bits == 64 || v >> num_bits == 0
 }
 
 /// The `num_bits` bits that begin at a bit of a byte.

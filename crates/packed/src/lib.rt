@@ -10,7 +10,7 @@ mod faults;
 mod vlq;
 mod zigzag;
 
-pub use bit_pack::{bits_at, unpack};
+pub use bit_pack::{bits_at, fits, unpack};
 pub use element::Element;
 pub use faults::{Fault, FaultKind, Layer};
 pub use vlq::{read_vlq, write_vlq};

@@ -133,7 +133,8 @@ impl<'a> RleEncoder<'a> {
         }
     }
 
-    // They begin a packed run: a byte before them is left for its header.
+    // They begin a packed run: a byte before them is left for its header. One function for this and the next would take the
+    // place, the header and the phase from both, and be no plainer.
     fn open_packed(&mut self, value: u64)
         requires phase { self.old.progress.phase ≡ Gathering }
         requires fills { Fills self.old value false }

@@ -7,6 +7,7 @@ ghost use Rattle.rle_encoder.specs.declared.phase.Phase.TheVariants.{Repeating};
 
 use crate::{Phase, RleEncoder};
 use column::Refusal;
+use packed::fits;
 use rle::{value_bytes, vlq_length};
 
 // How many values a list has at most.
@@ -17,7 +18,7 @@ impl<'a> RleEncoder<'a> {
     pub(crate) fn admit(&self, pattern: u64) -> Result<(), Refusal>
         ensures { Admits self.now pattern result }
     {
-        if !fits_width(pattern, self.progress.width) {
+        if !fits(pattern, self.progress.width) {
             return Err(Refusal::PatternTooWide);
         }
         if self.progress.length >= MOST {
@@ -84,12 +85,4 @@ impl<'a> RleEncoder<'a> {
         let run = vlq_length(2 * (before + count) as u64) + value_bytes(self.progress.width);
         self.progress.written + run
     }
-}
-
-// Whether a pattern has at most `width` bits.
-fn fits_width(pattern: u64, width: usize) -> bool
-    requires { width ≤ 64 }
-    ensures { result ≡ nat_lt pattern (2 ^ width) }
-{
-    width == 64 || pattern >> width == 0
 }

@@ -9,11 +9,9 @@ mod writing;
 
 use std::alloc::Global;
 use std::io;
-use std::process::ExitCode;
 use words::LineError;
 
-/// Answers each line of the standard input.
-fn run(rt: &HostRuntime) -> anyhow::Result<()> {
+fn main(rt: HostRuntime) -> io::Result<()> {
     let heap = rt.alloc();
     let text = io::read_to_string(heap, rt.stdin())?;
     for line in text.lines() {
@@ -36,12 +34,4 @@ fn answer(heap: Global, line: &str) -> Result<String, LineError> {
         Some("sweep") => sweeping::answer(heap, words),
         _ => Err(LineError::NotUnderstood),
     }
-}
-
-fn main(rt: HostRuntime) -> ExitCode {
-    let Err(fault) = run(&rt) else {
-        return ExitCode::SUCCESS;
-    };
-    let _ = eprintln!(rt; "rlecases: {fault}");
-    ExitCode::FAILURE
 }

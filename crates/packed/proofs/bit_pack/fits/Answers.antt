@@ -1,7 +1,7 @@
 use Rattle.std.proofs.Common.{◌≡◌, ℕ, ◌+◌, ◌-◌, ◌/◌, ◌^◌, eqb, ltb, sym, ◌∙◌, ⊎_elim, arith, pow_pos}
 use native.Mathlib.Nat.{div-eq_of_lt, div-eq-sub-div}
 use Rattle.std.proofs.lemmas.Bool.{cases_lt, eq-eqb, ne_eqb, le-ltb, lt-ltb}
-use Rattle.rle_encoder.proofs.admitting.fits_width.Goals as goal
+use Rattle.packed.proofs.bit_pack.fits.Goals as goal
 
 above : (p k : ℕ) → eqb (p / 2 ^ k) 0 ≡ ltb p (2 ^ k)
 above p k =
@@ -12,5 +12,5 @@ above p k =
     ne_eqb (p / 2 ^ k) 0 (λ e. omega arith) ∙ sym (le-ltb p (2 ^ k) large))
     (cases_lt p (2 ^ k))
 
-pub returns-else-width-eq64 : goal.returns-else-width-eq64
-returns-else-width-eq64 c = above c.args.pattern c.args.width
+pub returns-else-num_bits-eq64 : goal.returns-else-num_bits-eq64
+returns-else-num_bits-eq64 c = above c.args.v c.args.num_bits

@@ -1,5 +1,5 @@
 //! The cases of the table, and how a line says one.
-ghost use Rattle.std.specs.Prelude.{◌^◌, ◌<◌, ◌≤◌, ◌↔◌, IsTrue};
+ghost use Rattle.std.specs.Prelude.{◌<◌, ◌≤◌};
 
 use std::alloc::{AllocError, Global};
 use std::str::{FromStr, SplitWhitespace};

@@ -5,15 +5,17 @@ ghost use Rattle.std.specs.Prelude.{◌≡◌};
 
 use crate::Refusal;
 use packed::Fault;
-use std::error::Error;
-use std::fmt;
+use thiserror::Error;
 
 /// Why a reading call gave less than was asked for.
-#[derive(Clone, Copy, Debug, PartialEq, Eq)]
+// `From` is written by hand: the contracts of calls that use `?` need what it gives.
+#[derive(Clone, Copy, Debug, PartialEq, Eq, Error)]
 pub enum Declined {
     /// it was refused, and changed nothing
+    #[error("refused: {0}")]
     Refused(Refusal),
     /// the page is at fault behind the `count` values that came
+    #[error("{fault}, behind {count} values")]
     Faulted { fault: Fault, count: usize },
 }
 
@@ -38,17 +40,6 @@ impl Declined {
         }
     }
 }
-
-impl fmt::Display for Declined {
-    fn fmt<W: fmt::Write>(&self, f: &mut fmt::Formatter<W>) -> fmt::Result {
-        match self {
-            Declined::Refused(refusal) => write!(f, "{refusal}"),
-            Declined::Faulted { fault, count } => write!(f, "{fault}, behind {count} values"),
-        }
-    }
-}
-
-impl Error for Declined {}
 
 /// A fault that no value came before.
 impl From<Fault> for Declined {

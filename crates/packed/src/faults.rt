@@ -2,6 +2,7 @@
 ghost use Rattle.packed.specs.Faults.{told};
 ghost use Rattle.std.specs.Prelude.{◌≡◌};
 
+use std::error::Error;
 use std::fmt;
 
 /// What is wrong with a page. The kinds are told by number, from 7 on in this order.
@@ -90,3 +91,5 @@ impl fmt::Display for Fault {
         write!(f, "fault {number} at {place}")
     }
 }
+
+impl Error for Fault {}

@@ -10,7 +10,7 @@ use packed::{to_zigzag, write_vlq};
 
 /// Writes into a buffer, the lowest bit of each byte first. Bits that do not fill a word yet are held back, until a word
 /// is full or the writer is flushed.
-#[derive(Drop)]
+#[derive(Debug, Drop)]
 pub struct BitWriter<'a> {
     out: &'a mut [u8],
     byte_offset: usize,

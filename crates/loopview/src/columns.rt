@@ -180,6 +180,7 @@ fn unpack_ticks(heap: Global, bytes: &[u8], count: usize) -> Result<Vec<i64>, Re
     let mut reader = BitReader::new(bytes);
     let mut ticks = Vec::new(heap);
     let mut tick = 0;
+    // How many ticks were good is part of a fault's answer, and each read moves the reader.
     for good in 0..count {
         let difference = reader
             .get_zigzag_vlq_int()
@@ -203,6 +204,7 @@ fn join(
     ensures { IfOk result (λ v. vec_len v ≡ length addresses.now) }
 {
     let mut readings = Vec::new(heap);
+    // As `map` and `collect` it is not proved that the closure may be called at each place.
     for ((address, value), tick) in addresses.iter().zip(values).zip(ticks) {
         readings.push(Reading::new(*address, *value, *tick))?;
     }

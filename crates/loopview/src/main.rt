@@ -74,10 +74,13 @@ impl Request {
     fn from_words(words: env::Args) -> Result<Request, UnknownWord> {
         let mut extent = Extent::Ends;
         for word in words {
-            match word.as_str().parse() {
-                Ok(Flag::Help) => return Ok(Request::Help),
-                Ok(Flag::All) => extent = Extent::Every,
-                Err(NoFlag) => return Err(UnknownWord(word)),
+            match word
+                .as_str()
+                .parse()
+                .map_err(|_: NoFlag| UnknownWord(word))?
+            {
+                Flag::Help => return Ok(Request::Help),
+                Flag::All => extent = Extent::Every,
             }
         }
         Ok(Request::Show(extent))

@@ -76,7 +76,8 @@ impl<'a> RleDecoder<'a> {
         Ok(Some(E::from_pattern(value)))
     }
 
-    // Takes as many values as there are cells, or those that wait, into the first of them.
+    // Takes as many values as there are cells, or those that wait, into the first of them. Runs differ in length, and a fault
+    // is told with the number taken: no iterator steps through that more plainly.
     pub(crate) fn take_values<E: Element>(&mut self, cells: &mut [E]) -> Result<usize, Declined>
         ensures answer { result ≡ (taking_from E.Element (length cells.old) (state_of self.old)).answer }
         ensures cells { cells.new

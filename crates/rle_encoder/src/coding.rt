@@ -22,6 +22,8 @@ impl<'a> Encoder<'a> for RleEncoder<'a> {
         RleEncoder::put(self, v)
     }
 
+    // The encoder's own `finish` says what its lender sees in the buffer. Here the buffer goes back: of what a type parameter
+    // borrowed nothing is known once it is used up.
     fn finish(self) -> (usize, &'a mut [u8]) {
         let RleEncoder { out, progress } = self;
         let end = progress.close(out);

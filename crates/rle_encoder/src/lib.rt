@@ -29,7 +29,7 @@ pub struct RlePass {
 /// Writes a hybrid page into a lent buffer, value by value.
 ///
 /// What is written and what is held tell the list of the accepted values (`Kept`).
-#[derive(Drop)]
+#[derive(Debug, Drop)]
 pub struct RleEncoder<'a> {
     out: &'a mut [u8],
     progress: Progress,

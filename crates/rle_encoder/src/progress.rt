@@ -8,7 +8,7 @@ use crate::Phase;
 use arrayvec::ArrayVec;
 
 /// How far a page is written, and the values that are in no written run yet.
-#[derive(Drop)]
+#[derive(Debug, Drop)]
 pub(crate) struct Progress {
     pub(crate) width: usize,
     // how many values were accepted

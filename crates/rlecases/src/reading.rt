@@ -98,7 +98,7 @@ pub fn answer(heap: Global, mut words: SplitWhitespace<'_>) -> Result<String, Li
 }
 
 /// A decoder, and the type of the elements that it reads.
-#[derive(Drop)]
+#[derive(Debug, Drop)]
 struct PageReader<'a> {
     heap: Global,
     decoder: RleDecoder<'a>,

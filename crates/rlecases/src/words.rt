@@ -13,6 +13,7 @@ pub enum LineError {
 }
 
 /// What a word says, which has to be there.
+// `bitcases` has this too, with an error of its own: the few lines are no crate.
 pub fn parsed<T: FromStr + Drop>(word: Option<&str>) -> Result<T, LineError>
 where
     T::Err: Drop,

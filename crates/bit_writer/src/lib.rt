@@ -237,7 +237,8 @@ fn bytes_for(bits: usize) -> usize
     bits.div_ceil(8)
 }
 
-// The lowest `count` bytes of `v`, over those from `at` on.
+// The lowest `count` bytes of `v`, over those from `at` on. The writer's promises speak of its whole buffer, so a place goes
+// with it, and no part of it.
 fn store_bytes(out: &mut [u8], at: usize, v: u64, count: usize)
     requires bytes { count ≤ 8 }
     requires room { at + count ≤ length out.old }

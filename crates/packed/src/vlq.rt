@@ -6,6 +6,7 @@ ghost use Rattle.packed.specs.Vlq.{SoFar, read_vlq, vlq};
 use crate::faults::{Fault, FaultKind};
 
 /// Writes `v` in the fewest bytes from `at` on, and answers how many they are.
+// Buffer and place stay apart, here and in reading: the promises speak of the whole buffer, and a fault tells its place in it.
 pub fn write_vlq(out: &mut [u8], at: usize, v: u64) -> usize
     requires { at + length (vlq v) ≤ length out.old }
     ensures bytes { out.new ≡ overwrite out.old at (vlq v) }

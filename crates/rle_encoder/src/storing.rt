@@ -29,7 +29,7 @@ impl<'a> RleEncoder<'a> {
     }
 }
 
-// Bytes over those from a place on, and the place behind them.
+// Bytes over those from a place on, and the place behind them. What an encoder keeps is said of its whole buffer.
 pub(crate) fn write_bytes(out: &mut [u8], at: usize, bytes: &[u8]) -> usize
     requires { at + length bytes.now ≤ length out.old }
     ensures bytes { out.new ≡ overwrite out.old at bytes.now }

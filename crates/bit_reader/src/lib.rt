@@ -1,14 +1,16 @@
 //! A reader of packed values, whole bytes and variable-length numbers over a borrowed page.
+//!
+//! Widths stay plain numbers with a bound: a type for them would be taken apart again in every call.
 #![tactic(auto)]
 
-ghost use Rattle.std.specs.Prelude.{◌≡◌, ◌+◌, ◌*◌, ◌%◌, ◌<◌, ◌≤◌, cond, length, is_some, if◌then◌else◌};
+ghost use Rattle.std.specs.Prelude.{◌≡◌, ◌+◌, ◌*◌, ◌%◌, ◌<◌, ◌≤◌, length, is_some, if◌then◌else◌};
 ghost use Rattle.packed.specs.Bytes.{bits_at, overwrite};
 ghost use Rattle.packed.specs.Vlq.{number_of, read_vlq, signed_of, taken_of};
 
 use packed::{Element, Fault, bits_at, from_zigzag, read_vlq, unpack};
 
 /// Reads from a page, the lowest bit of each byte first.
-#[derive(Clone, Copy, Debug)]
+#[derive(Clone, Copy, Debug, PartialEq, Eq)]
 pub struct BitReader<'a> {
     buffer: &'a [u8],
     byte_offset: usize,
@@ -60,7 +62,7 @@ impl<'a> BitReader<'a> {
     pub fn get_value(&mut self, num_bits: usize) -> Option<u64>
         requires { num_bits ≤ 64 }
         ensures value { result ≡ read_one (page self.old) (position self.old) num_bits }
-        ensures moved { Moved self.old self.new (position self.old + cond (is_some result) num_bits 0) }
+        ensures moved { Moved self.old self.new (position self.old + (if is_some result then num_bits else 0)) }
     {
         if self.readable(1, num_bits) == 0 {
             return None;

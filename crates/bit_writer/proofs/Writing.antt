@@ -14,17 +14,14 @@ use Rattle.bit_writer.specs.Writer.{HoldsNone, PutBits, Wrote, buffer, held_byte
 use Rattle.bit_writer.specs.declared.BitWriter.{BitWriter}
 use Rattle.packed.proofs.Bytes.{power-bits, shl-cut}
 use Rattle.packed.proofs.Digits.{length_digits, number_push, digits_append, digits_same}
-use Rattle.packed.proofs.Overwrite.{overwrite-none, overwrite-overwrite, take-overwrite}
+use Rattle.packed.proofs.Overwrite.{overwrite-none, overwrite-overwrite, put_mid-overwrite, take-overwrite}
 
 -- ---- a part of a buffer
 
 -- what `s[at..end]` holds after a write to it is written over s
-pub put_mid-overwrite : (s part new : List ℕ) (at end : ℕ) → part ≡ new → at + length new ≡ end → put_mid at (end - at) s part ≡ overwrite s at new
-unfolding overwrite
-put_mid-overwrite s part new at end is long =
-    ap₂ (λ p n. take at s ++ (p ++ drop n (drop at s))) is (omega (arith, long))
-    ∙ ap (λ rest. take at s ++ (new ++ rest)) (drop-drop (length new) at s)
-    ∙ sym (append_assoc (take at s) new (drop (at + length new) s))
+pub part-overwrite : (s part new : List ℕ) (at end : ℕ) → part ≡ new → at + length new ≡ end → put_mid at (end - at) s part ≡ overwrite s at new
+part-overwrite s part new at end is long =
+    ap (put_mid at (end - at) s) is ∙ put_mid-overwrite s at (end - at) new (omega arith)
 
 -- the lowest bytes of a word
 byte-at : (i n : ℕ) → byte_at i n ≡ n / 256 ^ i % 256
@@ -135,7 +132,7 @@ pub none_held : (w : BitWriter) → HoldsNone w → w.buffered_values ≡ 0
 none_held w none = omega (arith, subst (λ n. w.buffered_values < 2 ^ n) none w.small)
 
 -- a writer that holds no bits writes none before its next bytes
-held_none : (w : BitWriter) (more : List ℕ) → HoldsNone w → held_bytes w ++ more ≡ more
+pub held_none : (w : BitWriter) (more : List ℕ) → HoldsNone w → held_bytes w ++ more ≡ more
 unfolding digits
 held_none w more none = ap (λ n. digits 256 (bytes_for n) w.buffered_values ++ more) none
 

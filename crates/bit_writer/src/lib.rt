@@ -1,4 +1,6 @@
 //! A writer of packed values, whole bytes and variable-length numbers over a lent buffer.
+//!
+//! Widths and counts of bytes stay plain numbers with a bound: a type for each would be taken apart again in every call.
 #![tactic(auto)]
 
 ghost use Rattle.std.specs.Prelude.{◌≡◌, ◌+◌, ◌*◌, ◌/◌, ◌%◌, ◌^◌, ◌<◌, ◌≤◌, length, replicate};
@@ -16,16 +18,15 @@ pub struct BitWriter<'a> {
     byte_offset: usize,
     buffered_values: u64,
     bit_offset: usize,
-    ghost inside: { byte_offset ≤ length out.now },
+    pub ghost inside: { byte_offset ≤ length out.now },
     // the bits that are held: fewer than 64, as one number
-    ghost few: { bit_offset < 64 },
-    ghost small: { buffered_values < 2 ^ bit_offset },
+    pub ghost few: { bit_offset < 64 },
+    pub ghost small: { buffered_values < 2 ^ bit_offset },
 }
 
 impl<'a> BitWriter<'a> {
     ghost use Rattle.std.specs.Prelude.{ℕ, ◌++◌, slice_index, slice_set};
     ghost use Rattle.packed.specs.Bytes.{bits_at};
-    ghost use Rattle.packed.specs.Digits.{number};
     ghost use Rattle.packed.specs.Vlq.{vlq};
     ghost use Rattle.packed.specs.Zigzag.{zigzag_of};
     ghost use Rattle.bit_writer.specs.Sizes.{words_for};
@@ -164,7 +165,8 @@ impl<'a> BitWriter<'a> {
         self.append_packed(values, num_bits);
     }
 
-    // Four methods append, and not one: each stores in its own way, so that one for all would take the store as a closure.
+    // Four methods append where no bit is held, and not one: each stores in its own way, so that one for all would take the
+    // store as a closure.
 
     // Packed values right behind the bytes that were written.
     fn append_packed(&mut self, values: &[u64], num_bits: usize)
@@ -222,12 +224,12 @@ fn above(v: u64, count: usize) -> u64
     v << count
 }
 
-// What is left of a value whose lowest bits went into the word before. `checked_shr` would say the test in more words.
+// What is left of a value whose lowest bits went into the word before.
 fn carried(v: u64, taken: usize) -> u64
     requires { taken ≤ 64 }
     ensures { result ≡ v / 2 ^ taken }
 {
-    if taken == 64 { 0 } else { v >> taken }
+    v.unbounded_shr(taken as u32)
 }
 
 // How many bytes hold `bits` bits.

@@ -1,4 +1,4 @@
-//! The calls of the bit layer that a case asks for. Each has a `requires`, which a test of the case meets.
+//! The calls of the bit layer that a case asks for. Where one has a `requires`, a test of the case meets it.
 ghost use Rattle.std.specs.Prelude.{◌≡◌, ◌+◌, ◌*◌, ◌<◌, ◌≤◌, length, IfOk, Ok, Err, vec_len};
 ghost use Rattle.bit_reader.specs.Reader.{page};
 ghost use Rattle.bit_writer.specs.Sizes.{bytes_for};

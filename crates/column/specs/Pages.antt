@@ -2,6 +2,7 @@
 use Rattle.std.specs.Prelude.{List, [], ◌++◌, ℕ, replicate}
 use Rattle.packed.specs.declared.faults.Fault.{Fault}
 
+-- Endings and readings are types of their own, so that what a page means is stated without the answers of calls.
 pub data Ending : Type 0 where
   end : Ending
   fault : Fault → Ending

@@ -22,7 +22,7 @@ pub use pass::Pass;
 pub use putting::{PutList, put_list};
 use thiserror::Error;
 pub use whole_page::work_page;
-pub use working::{Put, PutCall, Take, TakeAnswer, TakeCall};
+pub use working::{Put, PutCall, Step, Take, TakeAnswer, TakeCall};
 
 /// Why a call was refused. It changed nothing.
 #[derive(Clone, Copy, Debug, PartialEq, Eq, Error)]

@@ -5,7 +5,7 @@ ghost use Rattle.column.specs.Putting.{Column};
 
 /// What the pages of a coding mean, at each width that it has.
 ///
-/// It is a trait of its own, on a type without values, and no part of `Coding`: an encoder's clauses name it too, and an
+/// It is a trait of its own, on a type that holds nothing, and no part of `Coding`: an encoder's clauses name it too, and an
 /// encoder knows no coding.
 pub trait Meaning {
     /// The widths that the coding has.

@@ -35,7 +35,8 @@ pub fn put_list<'a, N: Encoder<'a>, E: Element>(encoder: &mut N, values: &[E]) -
     put_each(encoder, values)
 }
 
-// The values with their index, up to the first that is refused: apart from the public call, which so is proved with no answer.
+// The values with their index, up to the first that is refused: apart from the public call, where a wrong
+// argument so errs at its contract.
 fn put_each<'a, N: Encoder<'a>, E: Element>(encoder: &mut N, values: &[E]) -> PutList
     ensures answer { result ≡ putting N.Code.need (N.state encoder.old) (map E.pattern values.now) }
     ensures state { N.state encoder.new

@@ -33,7 +33,7 @@ pub fn work_page<'a, C: Coding<'a>, P: Element, E: Element>(
     write_and_read::<C, P, E>(width, out, values, puts, cells, takes)
 }
 
-// The work itself: apart from the public call, which so is proved with no answer.
+// The work itself, apart from the public call, where a wrong argument so errs at its contract.
 fn write_and_read<'a, C: Coding<'a>, P: Element, E: Element>(
     width: u32,
     out: &'a mut [u8],

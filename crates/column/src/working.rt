@@ -12,6 +12,7 @@ use packed::Element;
 use std::ops::Range;
 
 /// A call that puts: one value, or a list of them as a part of a slice.
+// A part is two numbers, here and below: a `Range` cannot be copied.
 #[derive(Clone, Copy, Debug, PartialEq, Eq)]
 pub enum PutCall<E> {
     One(E),

@@ -10,7 +10,7 @@ use Rattle.packed.proofs.VlqLaws.{length-vlq}
 use Rattle.bit_writer.specs.Sizes.{bytes_for}
 use Rattle.bit_writer.specs.Writer.{Wrote, buffer, held_bytes}
 use Rattle.bit_writer.specs.declared.BitWriter.{BitWriter}
-use Rattle.bit_writer.proofs.Writing.{wrote_buffer, wrote_place}
+use Rattle.bit_writer.proofs.Writing.{held_none, none_held, wrote_next}
 use Rattle.loopview.specs.Columns.{difference_of, last_tick, ticks_of}
 use Rattle.loopview.specs.declared.readings.Reading.{Reading}
 
@@ -34,17 +34,6 @@ zigzag-below (negsuc n) f = omega (arith, f.sfits)
 pub difference-short : (z : ℤ) → SFits w64 z → length (vlq (zigzag_of z)) ≤ 10
 difference-short z f = length-vlq 9 (zigzag_of z) (lt_of_lt_of_le (zigzag-below z f) (lit≤ tt))
 
--- a writer that holds no bits writes none before its next bytes
-pub held_none : (w : BitWriter) (more : List ℕ) → w.bit_offset ≡ 0 → held_bytes w ++ more ≡ more
-unfolding digits
-held_none w more e = ap (λ n. digits 256 (bytes_for n) w.buffered_values ++ more) e
-
--- what a writer wrote from the first byte on is the front of its buffer
-pub wrote-front : (a b : BitWriter) (bytes : List ℕ) → a.byte_offset ≡ 0 → Wrote a b bytes → take (length bytes) (buffer b) ≡ bytes
-wrote-front a b bytes start w =
-    ap₂ take (sym (zero-add (length bytes))) (w.buffer_is ∙ ap (λ at. overwrite (buffer a) at bytes) start)
-    ∙ take-overwrite (buffer a) 0 bytes zero-le
-
 -- bytes that fill a writer's buffer are all that it holds
 pub wrote-all : (a b : BitWriter) (bytes : List ℕ) → a.byte_offset ≡ 0 → a.bit_offset ≡ 0 → length bytes ≡ length (buffer a) → Wrote a b (held_bytes a ++ bytes) → buffer b ≡ bytes
 wrote-all a b bytes start none long w =
@@ -64,7 +53,7 @@ wrote-none w none =
       bytes = record {
         buffer_is = sym (overwrite-none (buffer w) w.byte_offset);
         place = omega arith;
-        held = omega (arith, subst (λ n. w.buffered_values < 2 ^ n) none w.small);
+        held = none_held w none;
         count = none;
         room = refl;
         lent = refl;
@@ -78,18 +67,9 @@ pub wrote-push : (start w after : BitWriter) (rs : List Reading) (last : ℤ) (r
     → d ≡ difference_of last r.tick → SFits w64 d → Wrote w after (held_bytes w ++ vlq (zigzag_of d)) → WroteTicks start after (rs ++ r ∷ []) r.tick
 wrote-push start w after rs last r d before is fits put =
     let more = vlq (zigzag_of d) in
-    let own : Wrote w after more = subst (Wrote w after) (held_none w more before.bytes.count) put in
     let next : ticks_of (pos 0) rs ++ more ≡ ticks_of (pos 0) (rs ++ r ∷ []) =
     ap (λ z. ticks_of (pos 0) rs ++ vlq (zigzag_of z)) (is ∙ ap (λ t. difference_of t r.tick) before.tick) ∙ sym (ticks-push (pos 0) rs r) in
-    let all : Wrote start after (ticks_of (pos 0) rs ++ more) =
-    record {
-      buffer_is = wrote_buffer before.bytes own;
-      place = wrote_place before.bytes own;
-      held = own.held;
-      count = own.count;
-      room = own.room ∙ before.bytes.room;
-      lent = own.lent ∙ before.bytes.lent;
-    } in
+    let all : Wrote start after (ticks_of (pos 0) rs ++ more) = wrote_next more before.bytes put in
     record {
       bytes = subst (Wrote start after) next all;
       short = subst (λ l. length l ≤ length (rs ++ r ∷ []) * 10) next

@@ -19,6 +19,7 @@ use thiserror::Error;
 const TICK_BYTES: usize = 10;
 
 /// A column whose values are packed at one width.
+// Two methods match on it: a type for each column, with a trait over both, would be longer.
 #[derive(Clone, Copy, Debug, PartialEq, Eq)]
 enum PackedColumn {
     Address,

@@ -102,7 +102,7 @@ impl fmt::Display for Field {
 }
 
 /// The start of a field's text, for a message. It is a copy without allocation, so a refusal never fails for want of memory.
-// `InlineText` itself has neither `Display` nor `Debug`.
+// `InlineText` itself has neither `Display` nor `Debug`, nor `==`, so the refusals that hold one have none either.
 #[derive(Clone, Copy)]
 pub struct Excerpt(InlineText<32>);
 

@@ -80,10 +80,6 @@ module _ (b : ℕ) (base : 0 < b) where
   digits_append (suc j) k n =
       rw (suc-add, pow-succ', ← div-div-eq-div-mul) (ap (λ ds. n % b ∷ ds) (digits_append j k (n / b)))
 
-  pub digits_push : (k n : ℕ) → digits b (k + 1) n ≡ digits b k n ++ n / b ^ k % b ∷ []
-  unfolding digits
-  digits_push k n = digits_append k 1 n
-
   -- only the k lowest digits of a number matter to its k lowest digits
   pub digits_same : (k m n : ℕ) → m % b ^ k ≡ n % b ^ k → digits b k m ≡ digits b k n
   unfolding digits

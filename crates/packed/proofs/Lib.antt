@@ -1,4 +1,5 @@
 pub mod Bytes
 pub mod Digits
 pub mod Overwrite
+pub mod Shifts
 pub mod VlqLaws

@@ -13,13 +13,6 @@ module _ {A : Type 0} (s : List A) (at : ℕ) where
   unfolding overwrite
   length-overwrite new room = simp (length-append, length-drop, length-take) (omega arith)
 
-  -- a write that reaches no further than the list begins inside it
-  pub overwrite-inside : (new : List A) → at + length new ≤ length (overwrite s at new) → at ≤ length s
-  unfolding overwrite
-  overwrite-inside new h =
-      let long : length (take at s ++ new ++ drop (at + length new) s) ≡ min at (length s) + length new + (length s - (at + length new)) = simp (length-append, length-drop, length-take) in
-      omega arith
-
   -- two writes, the second right behind the first, are one
   pub overwrite-overwrite : (xs ys : List A) → at ≤ length s → overwrite (overwrite s at xs) (at + length xs) ys ≡ overwrite s at (xs ++ ys)
   unfolding overwrite
@@ -51,16 +44,6 @@ module _ {A : Type 0} (s : List A) (at : ℕ) where
   drop-overwrite new room =
       ap (drop at) (append_assoc (take at s) new (drop (at + length new) s))
       ∙ drop_at (take at s) (new ++ drop (at + length new) s) at (length-take-le at s room)
-
--- one element behind those that were written
-pub overwrite-push : {A : Type 0} (s : List A) (at : ℕ) (xs : List A) (x : A) (i : ℕ) → length xs ≡ i → at + i < length s → set (overwrite s at xs) (at + i) x ≡ overwrite s at (xs ++ x ∷ [])
-overwrite-push s at xs x i e room =
-    let o = overwrite s at xs in
-    let len : length o ≡ length s = length-overwrite s at xs (omega arith) in
-    sym (overwrite-none (set o (at + i) x) (at + i + 1))
-    ∙ overwrite-set o (at + i) x [] (omega arith)
-    ∙ ap (λ k. overwrite o (at + k) (x ∷ [])) (sym e)
-    ∙ overwrite-overwrite s at xs (x ∷ []) (omega arith)
 
 -- a write to a part of a slice
 pub put_mid-overwrite : {A : Type 0} (s : List A) (at k : ℕ) (new : List A) → length new ≡ k → put_mid at k s new ≡ overwrite s at new

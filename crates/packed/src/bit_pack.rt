@@ -1,4 +1,7 @@
-//! Packed values and the kernels that unpack them: whole words, shifts and masks, at a width that is known at run time.
+//! Packed values and the kernel that unpacks them: whole words, shifts and masks, at a width that is known at run time.
+//!
+//! Widths stay plain numbers with a bound, and a group a slice of eight cells: a type for either would be made in one call and
+//! taken apart in the next.
 ghost use Rattle.std.specs.Prelude.{◌≡◌, ◌+◌, ◌*◌, ◌/◌, ◌%◌, ◌^◌, ◌<◌, ◌≤◌, length, nat_lt};
 ghost use Rattle.packed.specs.Bytes.{bits_at, cells_at};
 
@@ -61,8 +64,7 @@ pub fn fits(v: u64, num_bits: usize) -> bool
     requires { num_bits ≤ 64 }
     ensures { result ≡ nat_lt v (2 ^ num_bits) }
 {
-    // No value can be shifted by 64.
-    num_bits == 64 || v >> num_bits == 0
+    v.unbounded_shr(num_bits as u32) == 0
 }
 
 /// The `num_bits` bits that begin at a bit of a byte.

@@ -39,8 +39,8 @@ pub trait Element: Copy {
     ghost wraps: { (p : ℕ) → p < 2 ^ 64 → pattern (made p) ≡ p % 2 ^ WIDTH };
 }
 
-// One impl for each number type, over definitions and laws of its width: one impl for all of them would keep other crates
-// from writing theirs, as for the head reading.
+// One impl for each number type, over definitions and laws of its width: one over a trait of number types would need the same
+// six impls of that trait, and an impl by a macro of the repository's own is refused.
 impl Element for u8 {
     const WIDTH: u32 = 8;
 

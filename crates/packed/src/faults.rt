@@ -84,6 +84,7 @@ impl fmt::Display for Layer {
     }
 }
 
+// By hand, as what this crate stands on is std alone.
 impl fmt::Display for Fault {
     fn fmt<W: fmt::Write>(&self, f: &mut fmt::Formatter<W>) -> fmt::Result {
         let number = self.number();

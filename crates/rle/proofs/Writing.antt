@@ -199,13 +199,6 @@ module _ (w k : ℕ) (p g : List ℕ) (long : length p ≡ 8 * k) where
       ∙ digits_append 256 (lit< tt) (k * w) w n
       ∙ ap₂ ◌++◌ (digits_same 256 (lit< tt) (k * w) n low (ap (λ x. x % base) is ∙ add-mul-mod_self_left low base high)) (ap (digits 256 w) rest)
 
-  -- one group more: the header counts it, and its bytes come behind
-  pub one-group-more : length g ≡ 8 → k + 1 ≤ 63 → bytes_of w (packed (p ++ g)) ≡ (2 * (k + 1) + 1) ∷ (drop 1 (bytes_of w (packed p)) ++ digits 256 w (number (2 ^ w) g))
-  one-group-more eight most =
-      let both : length (p ++ g) ≡ length p + length g = length-append p g in
-      packed-bytes w (k + 1) (p ++ g) (omega arith) most
-      ∙ ap (λ ds. (2 * (k + 1) + 1) ∷ ds) (groups-append ∙ ap (λ bs. drop 1 bs ++ digits 256 w (number (2 ^ w) g)) (sym (packed-bytes w k p long (omega arith))))
-
   pub group-written : (rs : List Run) → length g ≡ 8 → k + 1 ≤ 63 → flat_map (bytes_of w) (rs ++ packed (p ++ g) ∷ []) ≡ set (flat_map (bytes_of w) (rs ++ packed p ∷ [])) (length (flat_map (bytes_of w) rs)) (2 * (k + 1) + 1) ++ digits 256 w (number (2 ^ w) g)
   group-written rs eight most =
       let front = flat_map (bytes_of w) rs in
@@ -321,9 +314,6 @@ module _ (w : ℕ) (rs : List Run) where
   unfolding closing
   repeated-length n v = length-joined w rs (repeated n v) ∙ omega (arith, length-repeated w n v)
 
-  pub repeating-same-length : (n v x : ℕ) → x ≡ v → page_length w (step (repeating rs n v) x) ≡ length (flat_map (bytes_of w) rs) + length (vlq (2 * (n + 1))) + value_bytes w
-  repeating-same-length n v x same = ap (page_length w) (repeating-same rs n v x same) ∙ repeated-length (n + 1) v
-
 pub repeating-other-length : (w : ℕ) (rs : List Run) (n v x : ℕ) → (x ≡ v → ⊥) → page_length w (step (repeating rs n v) x) ≡ length (flat_map (bytes_of w) rs) + length (vlq (2 * n)) + value_bytes w + 1 + value_bytes w
 repeating-other-length w rs n v x other =
     let before = length-joined w rs (repeated n v) in
@@ -334,10 +324,6 @@ repeating-other-length w rs n v x other =
 
 -- behind an open packed run of whole groups
 module _ (w : ℕ) (rs : List Run) (p : List ℕ) (some : 0 < length p) (most : length p < 504) (groups : length p % 8 ≡ 0) where
-  pub packed-length : page_length w (packing rs p []) ≡ length (flat_map (bytes_of w) (rs ++ packed p ∷ []))
-  unfolding closing
-  packed-length = refl
-
   group-longer : (g : List ℕ) → length g ≡ 8 → length (flat_map (bytes_of w) (rs ++ packed (p ++ g) ∷ [])) ≡ length (flat_map (bytes_of w) (rs ++ packed p ∷ [])) + w
   group-longer g eight = more-packed w rs (length p / 8) p g (omega arith) (omega arith) eight
 

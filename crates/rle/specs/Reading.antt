@@ -10,7 +10,7 @@ use Rattle.column.specs.Pages.{end, fault, Waiting, nothing, before, Reading, re
 use Rattle.rle.specs.Runs.{value_bytes}
 
 -- What stands at a place: the end, a fault, or a run and the place of the next. A packed run has as many values as are whole;
--- where it is cut, nothing follows it. It is no `Result` of the code's own types, so that the reading is stated without them.
+-- where it is cut, nothing follows it. It is no answer of the code, so that the reading is stated without it.
 pub data Stand : Type 0 where
   ended : Stand
   stopped : Fault → Stand

@@ -29,7 +29,7 @@ pub enum Found {
 }
 
 // A run of a page whose header takes the bytes from `at` to `start`.
-#[derive(Clone, Copy, Debug)]
+#[derive(Clone, Copy, Debug, PartialEq, Eq)]
 struct Place<'a> {
     page: &'a [u8],
     width: usize,

@@ -6,8 +6,8 @@ use Rattle.rle.specs.Lenient.{Lenient}
 use Rattle.rle.specs.Reading.{reads, waiting_at}
 
 -- If it stands in the public format, it opens and reads as its values and then the end.
-abbrev pub StandingIsRead : ℕ → List ℕ → Type 0
-StandingIsRead w s = (vs : List ℕ) → Hybrid w s vs → reads w s ≡ opened (record { values = vs; ending = end })
+abbrev pub ReadsAsItStands : ℕ → List ℕ → Type 0
+ReadsAsItStands w s = (vs : List ℕ) → Hybrid w s vs → reads w s ≡ opened (record { values = vs; ending = end })
 
 -- If it is read without a fault, it stands in the format, but for the named leniencies.
 abbrev pub ReadIsLenient : ℕ → List ℕ → Type 0

@@ -1,4 +1,5 @@
-//! The calls of a decoder, as every coding has them.
+//! The calls of a decoder, as every coding has them: each over a method of the decoder's own that carries the proof, so that
+//! a wrong call errs here, at the trait's contract.
 ghost use Rattle.rle_decoder.specs.Decoder.{state_of};
 ghost use Rattle.rle_decoder.specs.Small.{waiting_small};
 

@@ -1,5 +1,5 @@
 //! Reads the values of a page, one run after the other.
-ghost use Rattle.std.specs.Prelude.{◌≡◌, ℕ, ◌*◌, ◌^◌, ◌<◌, ◌≤◌, length, replicate, Some, Ok, nat_le};
+ghost use Rattle.std.specs.Prelude.{◌≡◌, ◌*◌, ◌^◌, ◌<◌, ◌≤◌, length, replicate, Some, Ok, nat_le};
 ghost use Rattle.rle.specs.Found.{found};
 ghost use Rattle.rle_decoder.specs.Run.{bits_end, count_of, next_of, value_of};
 
@@ -24,12 +24,12 @@ pub struct RleDecoder<'a> {
 }
 
 impl<'a> RleDecoder<'a> {
-    ghost use Rattle.std.specs.Prelude.{◌+◌, ◌-◌, min, map, take, if◌then◌else◌, Err, nat_lt};
+    ghost use Rattle.std.specs.Prelude.{◌+◌, min, map, take, if◌then◌else◌, Err, nat_lt};
     ghost use Rattle.column.specs.Taking.{Opening, after_taking, cells_with, first_of, one_of, taking, taking_from};
     ghost use Rattle.column.specs.declared.Refusal.TheVariants.{ElementTooNarrow};
     ghost use Rattle.packed.specs.Bytes.{overwrite};
     ghost use Rattle.rle.specs.Reading.{reads, run_at as stand_at};
-    ghost use Rattle.rle_decoder.specs.Pages.{ReadIsLenient, StandingIsRead};
+    ghost use Rattle.rle_decoder.specs.Pages.{ReadIsLenient, ReadsAsItStands};
     ghost use Rattle.rle_decoder.specs.Decoder.{Refilled, Took, left_of, page_of, state_of, waiting_of};
 
     /// A decoder of a page, which stands at its first value. A page says itself how many values it has.
@@ -38,13 +38,13 @@ impl<'a> RleDecoder<'a> {
     /// fault stands in the format, but for the named leniencies.
     pub fn open(page: &'a [u8], width: u32, _count: usize) -> Result<RleDecoder<'a>, Declined>
         ensures opening { Opening state_of (nat_le width 64) width page.now (reads width page.now) result }
-        ensures standing { StandingIsRead width page.now }
+        ensures standing { ReadsAsItStands width page.now }
         ensures lenient { ReadIsLenient width page.now }
     {
         RleDecoder::open_page(page, width)
     }
 
-    // Reads the page's first run.
+    // Reads the page's first run, apart from the public call, whose theorems need nothing of this.
     fn open_page(page: &'a [u8], width: u32) -> Result<RleDecoder<'a>, Declined>
         ensures { Opening state_of (nat_le width 64) width page.now (reads width page.now) result }
     {

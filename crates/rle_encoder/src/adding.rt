@@ -1,5 +1,5 @@
 //! Adding values to an encoder.
-ghost use Rattle.std.specs.Prelude.{◌≡◌, ◌+◌, ◌*◌, ◌^◌, ◌<◌, ◌≤◌, true, false, [], ◌∷◌, if◌then◌else◌, Err, nat_eq};
+ghost use Rattle.std.specs.Prelude.{◌≡◌, ◌+◌, ◌*◌, ◌<◌, ◌≤◌, true, false, [], ◌∷◌, if◌then◌else◌, Err, nat_eq};
 ghost use Rattle.arrayvec.specs.ArrayVec.{array_vec_len};
 ghost use Rattle.column.specs.Putting.{accepting, answered};
 ghost use Rattle.column.specs.declared.Refusal.{Refusal};
@@ -100,7 +100,7 @@ impl<'a> RleEncoder<'a> {
         }
     }
 
-    // One value more of a group that is not full.
+    // One value more of a group that is not full. The buffer stays, and what is kept of it holds on.
     fn collect(&mut self, value: u64, alike: bool)
         requires calm { repeats self.old.progress.phase ≡ false }
         requires few { array_vec_len self.old.progress.gathered < 7 }

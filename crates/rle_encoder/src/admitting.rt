@@ -1,5 +1,5 @@
 //! What an encoder refuses.
-ghost use Rattle.std.specs.Prelude.{◌≡◌, ◌+◌, ◌*◌, ◌^◌, ◌<◌, ◌≤◌, [], ◌∷◌, ◌++◌, length, nat_lt};
+ghost use Rattle.std.specs.Prelude.{◌≡◌, ◌+◌, ◌*◌, ◌^◌, ◌<◌, ◌≤◌, [], ◌∷◌, ◌++◌, length};
 ghost use Rattle.rle.specs.Runs.{page, value_bytes};
 ghost use Rattle.packed.specs.Vlq.{vlq};
 ghost use Rattle.rle_encoder.specs.Encoder.{Admits, AdmitsRun, accepted, more, width};

@@ -30,6 +30,7 @@ impl<'a> RleEncoder<'a> {
     {}
 }
 
+// Finishing takes the encoder apart, so here each call asks for what both parts keep.
 impl Progress {
     // The page's end, and zeros behind it.
     pub(crate) fn close(self, out: &mut [u8]) -> usize

@@ -26,7 +26,7 @@ impl<'a> RleEncoder<'a> {
         RleEncoder::empty(pass.width, out)
     }
 
-    // An encoder that has accepted nothing.
+    // An encoder that has accepted nothing, apart from the public call for the same reason as the pass below.
     fn empty(width: usize, out: &'a mut [u8]) -> RleEncoder<'a>
         requires { width ≤ 64 }
         ensures accepted { accepted result ≡ [] }
@@ -41,7 +41,7 @@ impl<'a> RleEncoder<'a> {
     }
 }
 
-// The pass for a width and a buffer's length.
+// The pass for a width and a buffer's length, apart from the public call: a wrong argument there errs at its contract.
 fn pass_for(width: u32, room: usize) -> Result<RlePass, Refusal>
     ensures { Checking ⟦<RlePass as Pass>⟧ ⟦<RlePages as Meaning>⟧ width room result }
 {

@@ -3,12 +3,13 @@ ghost use Rattle.rle.specs.Reading.{reads as reads_as};
 ghost use Rattle.rle.specs.Runs.{page as page_of};
 ghost use Rattle.std.specs.Prelude.{length, nat_le};
 ghost use Rattle.std.proofs.Common.{leb→le, le_refl};
-ghost use Rattle.rle.proofs.ReadBack.{hybrid-opens};
-ghost use Rattle.rle.proofs.Standing.{need-bounded, page-stands};
+ghost use Rattle.rle.proofs.PageLaws.{page_is_read};
+ghost use Rattle.rle.proofs.Standing.{need-bounded};
 
 use column::Meaning;
 
 /// The coding of columns as RLE/bit-packed hybrid pages.
+#[derive(Clone, Copy, Debug, PartialEq, Eq)]
 pub struct RlePages;
 
 impl Meaning for RlePages {
@@ -26,7 +27,7 @@ impl Meaning for RlePages {
 
     ghost widths_are_narrow = { λ w allowed. leb→le w 64 allowed };
 
-    ghost written_is_read = { λ w l allowed column. let stands = page-stands w l column.below column.count in (stands.0, stands.1, hybrid-opens w stands.2) };
+    ghost written_is_read = { λ w l allowed column. page_is_read w l column };
 
     ghost page_within_need = { λ w l allowed column. le_refl (length (page_of w l)) };
 

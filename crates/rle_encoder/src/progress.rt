@@ -8,7 +8,7 @@ use crate::Phase;
 use arrayvec::ArrayVec;
 
 /// How far a page is written, and the values that are in no written run yet.
-#[derive(Debug, Drop)]
+#[derive(Debug, PartialEq, Eq, Drop)]
 pub(crate) struct Progress {
     pub(crate) width: usize,
     // how many values were accepted
@@ -36,7 +36,7 @@ impl Progress {
         }
     }
 
-    // The value that repeats, or that all collected values have, else 0.
+    // The value that repeats, or that all collected values have; no caller has none, and 0 stands for it.
     pub(crate) fn current(&self) -> u64
         ensures { result ≡ or_zero self.now.same }
     {

@@ -128,6 +128,7 @@ fn put_one(encoder: &mut RleEncoder<'_>, kind: Kind, pattern: u64) -> Result<(),
 }
 
 /// A finished page: the first bytes of its buffer.
+// Not split where it is made: there the check does not find that the length is within the buffer, which was lent on.
 #[derive(Clone, Copy, Debug, PartialEq, Eq)]
 struct Page<'a> {
     buffer: &'a [u8],

@@ -87,6 +87,7 @@ pub struct Packing {
 }
 
 impl Packing {
+    // As of a whole case: it makes a list.
     fn parse(heap: Global, mut words: SplitWhitespace<'_>) -> Result<Packing, Refusal> {
         let layout = Layout::parse(&mut words)?;
         let values = words.map(|word| number(Some(word))).try_collect(heap)?;
@@ -104,6 +105,7 @@ pub struct Batch {
 }
 
 impl Batch {
+    // As of a whole case: it makes a list.
     fn parse(heap: Global, mut words: SplitWhitespace<'_>) -> Result<Batch, Refusal> {
         let layout = Layout::parse(&mut words)?;
         let cell = words.next().ok_or(Refusal::UnknownCell)?.parse()?;

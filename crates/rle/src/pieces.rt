@@ -11,6 +11,7 @@ use arrayvec::ArrayVec;
 use bit_writer::BitWriter;
 
 /// How many bytes a repeated value of `width` bits takes.
+// A name of its own beside the writer's `bytes_for`: the format speaks of a value's bytes.
 pub fn value_bytes(width: usize) -> usize
     requires { width ≤ 64 }
     ensures { result ≡ value_bytes width }

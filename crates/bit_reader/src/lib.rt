@@ -1,6 +1,7 @@
 //! A reader of packed values, whole bytes and variable-length numbers over a borrowed page.
 //!
-//! Widths stay plain numbers with a bound: a type for them would be taken apart again in every call.
+//! Widths and counts of bytes stay plain numbers with a bound: a type for each would be taken apart again in every call. What
+//! a call asks besides (`HasValues`) goes by what it reads, and is no fact that a reader keeps.
 #![tactic(auto)]
 
 ghost use Rattle.std.specs.Prelude.{◌≡◌, ◌+◌, ◌*◌, ◌%◌, ◌<◌, ◌≤◌, length, is_some, if◌then◌else◌};

@@ -1,6 +1,7 @@
 //! A writer of packed values, whole bytes and variable-length numbers over a lent buffer.
 //!
-//! Widths and counts of bytes stay plain numbers with a bound: a type for each would be taken apart again in every call.
+//! Widths and counts of bytes stay plain numbers with a bound: a type for each would be taken apart again in every call. What
+//! a call asks besides (`HasRoom`, `AllFit`, `HoldsNone`) goes by what it writes, and is no fact that a writer keeps.
 #![tactic(auto)]
 
 ghost use Rattle.std.specs.Prelude.{◌≡◌, ◌+◌, ◌*◌, ◌/◌, ◌%◌, ◌^◌, ◌<◌, ◌≤◌, length, replicate};

@@ -148,6 +148,7 @@ impl Case {
     }
 }
 
+// `rlecases` has this too, with an error of its own: the few lines are no crate.
 fn number<N: FromStr + Drop>(word: Option<&str>) -> Result<N, Refusal>
 where
     N::Err: Drop,

@@ -8,6 +8,7 @@ mod trials;
 
 use std::io;
 
+// `rlecases` goes over its lines like this too: these few are no crate.
 fn main(rt: HostRuntime) -> io::Result<()> {
     let heap = rt.alloc();
     let text = io::read_to_string(heap, rt.stdin())?;

@@ -97,6 +97,7 @@ fn unpack_into(cells: &mut [u8], bytes: &[u8], num_bits: usize) -> usize
 }
 
 /// Packs `patterns` into `out`, which they fill.
+// The width is a plain number here and below, as the writer takes it.
 fn pack_into(out: &mut [u8], patterns: &[u64], num_bits: usize)
     requires width { num_bits ≤ 64 }
     requires fit { AllFit num_bits patterns.now }
@@ -212,7 +213,7 @@ fn join(
     Ok(readings)
 }
 
-/// The bytes of the three columns, with the number of readings, which the bytes do not tell.
+/// The bytes of the three columns, with the number of readings, so that reading back rests on no column's width.
 #[derive(Debug, PartialEq, Eq, Drop)]
 pub struct Columns {
     count: usize,

@@ -210,6 +210,7 @@ impl<T: Drop> From<AllocFailed<T>> for ParseError {
     }
 }
 
+// It makes a list, so it is no `FromStr`, which has no heap.
 /// The readings of `text`, one to a line. Blank lines and comments, which begin with `#`, are skipped.
 pub fn parse(heap: Global, text: &str) -> Result<Vec<Reading>, ParseError>
     ensures few { IfOk result (λ v. vec_len v ≤ length text.now) }

@@ -68,6 +68,7 @@ pub fn fits(v: u64, num_bits: usize) -> bool
 }
 
 /// The `num_bits` bits that begin at a bit of a byte.
+// The bits of the page are one string, of which this tells a place: a slice from the byte on would still need the bit.
 pub fn bits_at(s: &[u8], byte: usize, bit: usize, num_bits: usize) -> u64
     requires start { bit < 8 }
     requires width { num_bits ≤ 64 }

@@ -39,8 +39,8 @@ pub trait Element: Copy {
     ghost wraps: { (p : ℕ) → p < 2 ^ 64 → pattern (made p) ≡ p % 2 ^ WIDTH };
 }
 
-// One impl for each number type, over definitions and laws of its width: one over a trait of number types would need the same
-// six impls of that trait, and an impl by a macro of the repository's own is refused.
+// One impl for each number type, over definitions and laws of its width: an impl over a trait of number types would have to
+// give the width as a constant, which none of those traits has, and impls by a macro of the repository's own are refused.
 impl Element for u8 {
     const WIDTH: u32 = 8;
 

@@ -2,8 +2,8 @@
 ghost use Rattle.packed.specs.Faults.{told};
 ghost use Rattle.std.specs.Prelude.{◌≡◌};
 
-use std::error::Error;
 use std::fmt;
+use thiserror::Error;
 
 /// What is wrong with a page. The kinds are told by number, from 7 on in this order.
 #[derive(Clone, Copy, Debug, PartialEq, Eq)]
@@ -39,7 +39,8 @@ pub enum Layer {
 }
 
 /// A fault and its place: a byte offset from the page's first byte, and for too few values how many there were.
-#[derive(Clone, Copy, Debug, PartialEq, Eq)]
+#[derive(Clone, Copy, Debug, PartialEq, Eq, Error)]
+#[error("fault {number} at {place}", number = .kind.number())]
 pub struct Fault {
     pub kind: FaultKind,
     pub place: usize,
@@ -52,6 +53,13 @@ impl FaultKind {
     {
         Fault { kind: self, place }
     }
+
+    // The number under which such a fault is told.
+    fn number(self) -> u8
+        ensures { result ≡ (told self).0 }
+    {
+        self as u8
+    }
 }
 
 impl Fault {
@@ -59,7 +67,7 @@ impl Fault {
     pub fn number(&self) -> u8
         ensures { result ≡ (told self.now.kind).0 }
     {
-        self.kind as u8
+        self.kind.number()
     }
 
     /// The layer that finds such a fault.
@@ -83,14 +91,3 @@ impl fmt::Display for Layer {
         })
     }
 }
-
-// By hand, as what this crate stands on is std alone.
-impl fmt::Display for Fault {
-    fn fmt<W: fmt::Write>(&self, f: &mut fmt::Formatter<W>) -> fmt::Result {
-        let number = self.number();
-        let place = self.place;
-        write!(f, "fault {number} at {place}")
-    }
-}
-
-impl Error for Fault {}

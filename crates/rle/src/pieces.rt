@@ -1,6 +1,7 @@
 //! The bytes of one run or group, before they go into a page.
 //!
-//! A width stays a plain number: a type for those of at most 64 bits would be taken apart again in each of these functions.
+//! A width and a run's count stay plain numbers with a bound: a type for each would be taken apart again in each of these
+//! functions.
 ghost use Rattle.std.specs.Prelude.{◌≡◌, ◌+◌, ◌^◌, ◌<◌, ◌≤◌, length, take};
 ghost use Rattle.bit_writer.specs.Writer.{AllFit};
 ghost use Rattle.rle.specs.Runs.{bytes_of, repeated, value_bytes};
@@ -11,7 +12,7 @@ use arrayvec::ArrayVec;
 use bit_writer::BitWriter;
 
 /// How many bytes a repeated value of `width` bits takes.
-// A name of its own beside the writer's `bytes_for`: the format speaks of a value's bytes.
+// The writer's `bytes_for` is this too, by the word of its own definition: joined they would be one call of `div_ceil` still.
 pub fn value_bytes(width: usize) -> usize
     requires { width ≤ 64 }
     ensures { result ≡ value_bytes width }

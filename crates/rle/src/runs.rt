@@ -40,7 +40,8 @@ struct Place<'a> {
 }
 
 /// Reads the run that begins at `at`; none where the page ends there.
-// Page and place stay apart: a fault, and a run's own bytes, are told by their places in the page.
+// Page and place stay apart: a fault, and a run's own bytes, are told by their places in the page. A width stays a plain
+// number, as in what writes runs.
 pub fn run_at(page: &[u8], width: usize, at: usize) -> Result<Option<Found>, Fault>
     requires { width ≤ 64 }
     ensures { found result ≡ run_at width page.now at }

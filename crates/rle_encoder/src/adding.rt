@@ -1,4 +1,7 @@
 //! Adding values to an encoder.
+//!
+//! What these methods ask (`Takes`, `Fills`, which phase it is) goes by the value that comes: an encoder keeps none of it. That
+//! its buffer is still the one that was lent (`lent`) is said by each public call, since it is no part of the state.
 ghost use Rattle.std.specs.Prelude.{◌≡◌, ◌+◌, ◌*◌, ◌<◌, ◌≤◌, true, false, [], ◌∷◌, if◌then◌else◌, Err, nat_eq};
 ghost use Rattle.arrayvec.specs.ArrayVec.{array_vec_len};
 ghost use Rattle.column.specs.Putting.{accepting, answered};

@@ -10,7 +10,7 @@ use column::Refusal;
 use packed::fits;
 use rle::{value_bytes, vlq_length};
 
-// How many values a list has at most.
+// How many values a list has at most: a count of them is a `usize`, and a run's, as `rle` reads it, a `u64`.
 const MOST: usize = 2147483647;
 
 impl<'a> RleEncoder<'a> {

@@ -26,7 +26,8 @@ impl<'a> RleEncoder<'a> {
         RleEncoder::empty(pass.width, out)
     }
 
-    // An encoder that has accepted nothing, apart from the public call for the same reason as the pass below.
+    // An encoder that has accepted nothing, apart from the public call for the same reason as the pass below. The width is a
+    // plain number, as in `rle`.
     fn empty(width: usize, out: &'a mut [u8]) -> RleEncoder<'a>
         requires { width ≤ 64 }
         ensures accepted { accepted result ≡ [] }

@@ -11,6 +11,7 @@ use std::alloc::Global;
 use std::io;
 use words::LineError;
 
+// `bitcases` goes over its lines like this too: these few are no crate.
 fn main(rt: HostRuntime) -> io::Result<()> {
     let heap = rt.alloc();
     let text = io::read_to_string(heap, rt.stdin())?;

@@ -60,6 +60,7 @@ fn load_rest(s: &[u8]) -> u64
 }
 
 /// Whether a value has at most `num_bits` bits.
+#[tactic(auto, using(crate::proofs::Shifts::none_left))]
 pub fn fits(v: u64, num_bits: usize) -> bool
     requires { num_bits ≤ 64 }
     ensures { result ≡ nat_lt v (2 ^ num_bits) }

@@ -1,8 +1,8 @@
 -- The laws of bits in bytes: where a field lies, how fields are cut and joined.
-use Rattle.std.proofs.Common.{suc-le-suc, ◌≡◌, ℕ, zero, suc, ◌+◌, ◌-◌, ◌*◌, ◌/◌, ◌%◌, ◌^◌, ◌<◌, ◌≤◌, List, [], ◌∷◌, ◌++◌, length, get_or, take, drop, set, replicate, sym, refl, ap, ◌∙◌, subst, ap₂, zero-le, lt_of_lt_of_le, le_of_suc-le-suc, not-suc-le-zero, add-zero, add_assoc, mul-le-mul_right, mod-lt, mod-eq_of_lt, mul_assoc, suc-mul, mul_comm, add_comm, suc-add, pow-suc, mul-zero, zero-add, zero-mul, mul-suc, div-one, mul-div_cancel, add-one, arith, lit<, pow_pos, pow_mono, pow-add, shr-shr}
+use Rattle.std.proofs.Common.{suc-le-suc, ◌≡◌, ℕ, zero, suc, ◌+◌, ◌-◌, ◌*◌, ◌/◌, ◌%◌, ◌^◌, ◌<◌, ◌≤◌, List, [], ◌∷◌, ◌++◌, length, get_or, take, drop, set, replicate, sym, refl, ap, ◌∙◌, subst, ap₂, zero-le, lt_of_lt_of_le, le_of_suc-le-suc, not-suc-le-zero, add-zero, add_assoc, mul-le-mul_right, mod-lt, mod-eq_of_lt, mul_assoc, suc-mul, mul_comm, add_comm, suc-add, pow-suc, mul-zero, zero-add, zero-mul, mul-suc, div-one, mul-div_cancel, add-one, arith, lit<, lit≤, length-drop, pow_pos, pow_mono, pow-add, shr-shr}
 use lib.Pow.{field, mod-mod-pow, mod-pow-add}
-use native.Mathlib.Nat.{pow-zero, mod-mod, div-eq_of_lt, mul-mod_left, add-mul-mod_self_left}
-use Rattle.std.proofs.lemmas.List.{take_more_set, take_rest}
+use native.Mathlib.Nat.{pow-zero, mod-mod, div-eq_of_lt, pow-le-pow_right, mul-mod_left, add-mul-mod_self_left}
+use Rattle.std.proofs.lemmas.List.{take_more_set, take_rest, drop_more}
 use Rattle.std.specs.Int.{from_le_bytes, w64}
 use Rattle.packed.specs.Digits.{number, digits}
 use Rattle.packed.specs.Bytes.{bits_at, cells_at, overwrite}
@@ -111,6 +111,27 @@ zeros_fit (b ∷ bs) n fits zero = fits 0
 zeros_fit (b ∷ bs) n fits (suc i) = zeros_fit bs n (λ j. fits (suc j)) i
 
 -- ---- words
+
+-- the bytes from i on, of which there are at most k
+pub rest_below : (s : List ℕ) (i k : ℕ) → length s ≤ i + k → number 256 (drop i s) < 2 ^ (8 * k)
+rest_below s i k h =
+    lt_of_lt_of_le (number-below 256 (lit< tt) (drop i s))
+    (subst (λ x. 256 ^ length (drop i s) ≤ x) (power-bits 8 k) (pow-le-pow_right (lit< tt) (simp length-drop (omega arith))))
+
+pub rest-is : (s : List ℕ) (i : ℕ) → length s < i + 8 → number 256 (drop i s) ≡ bits_at s (8 * i) 64
+unfolding bits_at
+rest-is s i h =
+    let small : number 256 (drop i s) < 2 ^ 56 = rest_below s i 7 (omega arith) in
+    let e : number 256 (drop i s) ≡ number 256 s / 2 ^ (8 * i) = number-drop 256 (lit< tt) i s ∙ ap (λ x. number 256 s / x) (power-bits 8 i) in
+    sym (mod-eq_of_lt (lt_of_lt_of_le small (lit≤ tt))) ∙ ap (λ x. x % 2 ^ 64) e
+
+-- one byte more in front
+pub rest_more : (s : List ℕ) (i : ℕ) → i < length s → get_or s i 0 < 256 → number 256 (drop i s) ≡ number 256 (drop (i + 1) s) * 256 + get_or s i 0
+unfolding number
+rest_more s i room fits =
+    ap (number 256) (drop_more s i 0 room)
+    ∙ ap₂ ◌+◌ (mod-eq_of_lt fits) (mul_comm 256 (number 256 (drop (i + 1) s)))
+    ∙ add_comm (get_or s i 0) (number 256 (drop (i + 1) s) * 256)
 
 byte_more : (s : List ℕ) (i j k : ℕ) → i + 1 ≡ j → get_or s i 0 < 256 → bits_at s (8 * i) (8 + k) ≡ bits_at s (8 * j) k * 256 + get_or s i 0
 byte_more s i j k e fits =

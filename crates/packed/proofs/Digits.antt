@@ -1,5 +1,5 @@
 -- The laws of digits: a number and its digits determine each other.
-use Rattle.std.proofs.Common.{◌≡◌, ℕ, zero, suc, ◌+◌, ◌*◌, ◌/◌, ◌%◌, ◌^◌, ◌<◌, List, [], ◌∷◌, ◌++◌, length, get_or, take, drop, sym, refl, ap, ◌∙◌, ap₂, suc-le-suc, zero-le, add-zero, add_assoc, mod-lt, mod-eq_of_lt, mul_assoc, mul_comm, add_comm, suc-add, mul-pos, one-mul, pow-suc, mul-zero, zero-add, mul-add, div-one, arith}
+use Rattle.std.proofs.Common.{◌≡◌, ℕ, zero, suc, ◌+◌, ◌*◌, ◌/◌, ◌%◌, ◌^◌, ◌<◌, List, [], ◌∷◌, ◌++◌, length, get_or, take, drop, sym, refl, ap, ◌∙◌, ap₂, suc-le-suc, zero-le, le_of_suc-le-suc, not-suc-le-zero, add-zero, add_assoc, mod-lt, mod-eq_of_lt, mul_assoc, mul_comm, add_comm, suc-add, mul-pos, one-mul, pow-suc, mul-zero, zero-add, mul-add, div-one, arith}
 use lib.Arith.{digits_div, digits_mod, digits_lt, mod-mul}
 use native.Mathlib.Nat.{pow-zero, pow-succ', mod-one, mod-mod, div-div-eq-div-mul, div-eq_of_lt}
 use Rattle.std.specs.List.{AllByRecursion}
@@ -88,6 +88,13 @@ module _ (b : ℕ) (base : 0 < b) where
       ap₂ ◌∷◌
       (low-low m k ∙ ap (λ x. x % b) e ∙ sym (low-low n k))
       (digits_same k (m / b) (n / b) (high-low m k ∙ ap (λ x. x / b) e ∙ sym (high-low n k)))
+
+  -- a digit of a number, where it stands
+  pub get_or-digits : (k n i : ℕ) → i < k → get_or (digits b k n) i 0 ≡ n / b ^ i % b
+  unfolding digits
+  get_or-digits zero n i h = absurd (not-suc-le-zero h)
+  get_or-digits (suc k) n zero h = rw (pow-zero, div-one)
+  get_or-digits (suc k) n (suc i) h = get_or-digits k (n / b) i (le_of_suc-le-suc h) ∙ rw (pow-succ', ← div-div-eq-div-mul)
 
   -- digits below the base are the digits of their number
   pub digits_number : (ds : List ℕ) → AllByRecursion (λ d. d < b) ds → digits b (length ds) (number b ds) ≡ ds

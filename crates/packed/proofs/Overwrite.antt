@@ -13,6 +13,13 @@ module _ {A : Type 0} (s : List A) (at : ℕ) where
   unfolding overwrite
   length-overwrite new room = simp (length-append, length-drop, length-take) (omega arith)
 
+  -- a write that reaches no further than the list begins inside it
+  pub overwrite-inside : (new : List A) → at + length new ≤ length (overwrite s at new) → at ≤ length s
+  unfolding overwrite
+  overwrite-inside new h =
+      let long : length (take at s ++ new ++ drop (at + length new) s) ≡ min at (length s) + length new + (length s - (at + length new)) = simp (length-append, length-drop, length-take) in
+      omega arith
+
   -- two writes, the second right behind the first, are one
   pub overwrite-overwrite : (xs ys : List A) → at ≤ length s → overwrite (overwrite s at xs) (at + length xs) ys ≡ overwrite s at (xs ++ ys)
   unfolding overwrite

@@ -54,9 +54,12 @@ fn load_rest(s: &[u8]) -> u64
     requires { length s.now < 8 }
     ensures { result ≡ bits_at s.now 0 64 }
 {
-    let mut bytes = [0; 8];
-    bytes[..s.len()].copy_from_slice(s);
-    u64::from_le_bytes(bytes)
+    // A copy into eight bytes of zeros would be a call, since its length is known at run time, and reading it back waits for it.
+    let mut word: u64 = 0;
+    for i in (0..s.len()).rev() {
+        word = word * 256 + s[i] as u64;
+    }
+    word
 }
 
 /// Whether a value has at most `num_bits` bits.
@@ -142,7 +145,8 @@ fn unpack_middle<T: Element>(input: &[u8], cells: &mut [T], num_bits: usize)
     }
 }
 
-// Any other values, one by one.
+// Any other values, one by one. Apart from the kernel's other loops, which are unrolled worse with this one among them.
+#[inline(never)]
 fn unpack_wide<T: Element>(input: &[u8], cells: &mut [T], num_bits: usize)
     requires width { num_bits ≤ 64 }
     requires group { length cells.old ≡ 8 }

@@ -32,7 +32,11 @@ fn continuing_bytes(n: u64) -> usize
     ensures value { 1 + result ≡ length (vlq n) }
     ensures short { result < 10 }
 {
-    n.max(1).ilog2() as usize / 7
+    // one byte, as most headers are, is told without the logarithm
+    if n < 128 {
+        return 0;
+    }
+    n.ilog2() as usize / 7
 }
 
 /// The bytes of a run that repeats a value.

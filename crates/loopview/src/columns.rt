@@ -53,10 +53,11 @@ impl PackedColumn {
         ensures values { IfOk result (λ v. v.items ≡ map (pattern_of self) readings.now) }
         ensures fit { IfOk result (λ v. AllFit (width_of self) v.items) }
     {
+        // Memory is asked for as the list grows: of one request for all of it there may be too little.
         readings
             .iter()
-            .map(|reading| self.pattern(reading))
-            .collect(heap)
+            .map(|reading| Ok(self.pattern(reading)))
+            .try_collect(heap)
     }
 
     /// The column's bytes.

@@ -151,18 +151,27 @@ fn number(field: Field, digits: &str) -> Result<i64, Reason>
         → signed_digits_value 10 digits.now ≤ℤ greatest field
         → is_ok result ≡ true }
 {
-    let text = Excerpt::of(digits);
+    // The excerpt is made where a number is refused: made of each number that is read, it would be a part of every line's time.
     match digits.parse::<i64>() {
-        Ok(n) if n < field.lowest() => Err(Reason::TooLow { field, text }),
-        Ok(n) if n > field.highest() => Err(Reason::TooHigh { field, text }),
+        Ok(n) if n < field.lowest() => Err(Reason::TooLow {
+            field,
+            text: Excerpt::of(digits),
+        }),
+        Ok(n) if n > field.highest() => Err(Reason::TooHigh {
+            field,
+            text: Excerpt::of(digits),
+        }),
         Ok(n) => Ok(n),
-        Err(fault) => match fault.kind() {
-            IntErrorKind::PosOverflow => Err(Reason::TooHigh { field, text }),
-            IntErrorKind::NegOverflow => Err(Reason::TooLow { field, text }),
-            IntErrorKind::Empty | IntErrorKind::InvalidDigit | IntErrorKind::Zero => {
-                Err(Reason::NoNumber { field, text })
+        Err(fault) => {
+            let text = Excerpt::of(digits);
+            match fault.kind() {
+                IntErrorKind::PosOverflow => Err(Reason::TooHigh { field, text }),
+                IntErrorKind::NegOverflow => Err(Reason::TooLow { field, text }),
+                IntErrorKind::Empty | IntErrorKind::InvalidDigit | IntErrorKind::Zero => {
+                    Err(Reason::NoNumber { field, text })
+                }
             }
-        },
+        }
     }
 }
 

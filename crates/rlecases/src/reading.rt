@@ -32,14 +32,11 @@ impl FromStr for Call {
     }
 }
 
-/// What a call answered. Values stand here as their patterns.
-#[derive(Debug, PartialEq, Eq, Drop)]
+/// What a call answered. A value stands here as its pattern, and the cells of a batch are said behind it.
+#[derive(Clone, Copy, Debug, PartialEq, Eq)]
 enum Taken {
     Got(Result<Option<u64>, Declined>),
-    Filled {
-        count: Result<usize, Declined>,
-        cells: Vec<u64>,
-    },
+    Filled(Result<usize, Declined>),
     Skipped(Result<usize, Declined>),
 }
 
@@ -48,18 +45,11 @@ impl fmt::Display for Taken {
         match self {
             Taken::Got(Ok(Some(value))) => write!(f, "v {value}"),
             Taken::Got(Ok(None)) => f.write_str("none"),
+            Taken::Filled(Ok(count)) => write!(f, "n {count}"),
             Taken::Skipped(Ok(count)) => write!(f, "s {count}"),
-            Taken::Got(Err(declined)) | Taken::Skipped(Err(declined)) => Said(*declined).fmt(f),
-            Taken::Filled { count, cells } => {
-                match count {
-                    Ok(count) => write!(f, "n {count}:")?,
-                    Err(declined) => write!(f, "{}:", Said(*declined))?,
-                }
-                for cell in cells {
-                    write!(f, " {cell}")?;
-                }
-                Ok(())
-            }
+            Taken::Got(Err(declined))
+            | Taken::Filled(Err(declined))
+            | Taken::Skipped(Err(declined)) => { Said(*declined).fmt(f) }
         }
     }
 }
@@ -114,32 +104,37 @@ impl PageReader<'_> {
                 self.kind = kind;
                 continue;
             }
-            let answer = self.take(word.parse()?)?;
+            let call = word.parse()?;
             if !text.is_empty() {
                 text.push_str("; ")?;
             }
-            write!(text, "{answer}")?;
+            self.take(call, &mut text)?;
         }
         Ok(text)
     }
 
-    fn take(&mut self, call: Call) -> Result<Taken, AllocError> {
+    // Makes a call, and says behind the text what it answered.
+    fn take(&mut self, call: Call, text: &mut String) -> Result<(), AllocError> {
         match self.kind {
-            Kind::U8 => self.take_as::<u8>(call),
-            Kind::U16 => self.take_as::<u16>(call),
-            Kind::U32 => self.take_as::<u32>(call),
-            Kind::U64 => self.take_as::<u64>(call),
-            Kind::I32 => self.take_as::<i32>(call),
-            Kind::I64 => self.take_as::<i64>(call),
-            Kind::Head => self.take_as::<HeadReading>(call),
+            Kind::U8 => self.take_as::<u8>(call, text),
+            Kind::U16 => self.take_as::<u16>(call, text),
+            Kind::U32 => self.take_as::<u32>(call, text),
+            Kind::U64 => self.take_as::<u64>(call, text),
+            Kind::I32 => self.take_as::<i32>(call, text),
+            Kind::I64 => self.take_as::<i64>(call, text),
+            Kind::Head => self.take_as::<HeadReading>(call, text),
         }
     }
 
-    fn take_as<E: Element + Clone>(&mut self, call: Call) -> Result<Taken, AllocError> {
+    fn take_as<E: Element + Clone>(
+        &mut self,
+        call: Call,
+        text: &mut String,
+    ) -> Result<(), AllocError> {
         match call {
-            Call::Get => Ok(Taken::Got(self.get::<E>())),
-            Call::Batch(count) => self.fill::<E>(usize::from(count)),
-            Call::Skip(count) => Ok(Taken::Skipped(self.decoder.skip(count))),
+            Call::Get => write!(text, "{}", Taken::Got(self.get::<E>())),
+            Call::Batch(count) => self.fill::<E>(usize::from(count), text),
+            Call::Skip(count) => write!(text, "{}", Taken::Skipped(self.decoder.skip(count))),
         }
     }
 
@@ -148,13 +143,21 @@ impl PageReader<'_> {
         Ok(value.map(|value| value.to_pattern()))
     }
 
-    fn fill<E: Element + Clone>(&mut self, count: usize) -> Result<Taken, AllocError> {
-        let mut cells = vec![in self.heap; E::from_pattern(MARK); count]?;
-        let count = self.decoder.get_batch(cells.as_mut_slice());
-        let cells = cells
-            .iter()
-            .map(|cell| cell.to_pattern())
-            .collect(self.heap)?;
-        Ok(Taken::Filled { count, cells })
+    // The cells are said as they are: a list of their patterns besides would ask for up to eight times their memory. Where
+    // there is none for the cells, the call is not made.
+    fn fill<E: Element + Clone>(
+        &mut self,
+        count: usize,
+        text: &mut String,
+    ) -> Result<(), AllocError> {
+        let Ok(mut cells) = vec![in self.heap; E::from_pattern(MARK); count] else {
+            return text.push_str("no memory");
+        };
+        let taken = Taken::Filled(self.decoder.get_batch(cells.as_mut_slice()));
+        write!(text, "{taken}:")?;
+        for cell in &cells {
+            write!(text, " {}", cell.to_pattern())?;
+        }
+        Ok(())
     }
 }

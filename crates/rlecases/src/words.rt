@@ -1,6 +1,8 @@
 //! The words of a line.
+ghost use Rattle.std.specs.Prelude.{◌<◌, IfOk};
+
 use std::alloc::{AllocError, Global};
-use std::str::{FromStr, from_utf8};
+use std::str::FromStr;
 use thiserror::Error;
 
 /// Why a line has no answer.
@@ -22,11 +24,16 @@ where
         .ok_or(LineError::NotUnderstood)
 }
 
+/// What is made of a word. Where there is no memory for it, the line is told as one that is not understood.
+pub fn or_not_understood<T: Drop, E: Drop>(made: Result<T, E>) -> Result<T, LineError> {
+    made.map_err(|_| LineError::NotUnderstood)
+}
+
 /// The bytes that a word says, two hexadecimal digits each, or `-` for none.
 pub fn bytes(heap: Global, word: Option<&str>) -> Result<Vec<u8>, LineError> {
     match word {
         Some("-") => Ok(Vec::new(heap)),
-        Some(digits) => digit_pairs(heap, digits),
+        Some(digits) => or_not_understood(digit_pairs(heap, digits)),
         None => Err(LineError::NotUnderstood),
     }
 }
@@ -39,11 +46,22 @@ fn digit_pairs(heap: Global, word: &str) -> Result<Vec<u8>, LineError> {
     pairs.map(byte_of).try_collect(heap)
 }
 
+// Two digits, or a plus sign and one, as `from_str_radix` has them: a text made of each pair for it took most of a page's time.
 fn byte_of(digits: &[u8]) -> Result<u8, LineError> {
-    from_utf8(digits)
-        .ok()
-        .and_then(|digits| u8::from_str_radix(digits, 16).ok())
-        .ok_or(LineError::NotUnderstood)
+    match digits {
+        [b'+', low] => digit_of(*low),
+        [high, low] => Ok(16 * digit_of(*high)? + digit_of(*low)?),
+        _ => Err(LineError::NotUnderstood),
+    }
+}
+
+fn digit_of(byte: u8) -> Result<u8, LineError>
+    ensures { IfOk result (λ digit. digit < 16) }
+{
+    match char::from(byte).to_digit(16) {
+        Some(digit) => Ok(digit as u8),
+        None => Err(LineError::NotUnderstood),
+    }
 }
 
 /// A type of elements.

@@ -1,5 +1,5 @@
 //! Writing a page: one call of the encoder for each word.
-use crate::words::{Kind, LineError, parsed};
+use crate::words::{Kind, LineError, or_not_understood, parsed};
 use column::{Element, Encoder, HeadReading, PutList, Refusal, put_list};
 use rle_coding::RleEncoder;
 use std::alloc::Global;
@@ -82,7 +82,7 @@ impl fmt::Display for PutAnswer {
 pub fn answer(heap: Global, mut words: SplitWhitespace<'_>) -> Result<String, LineError> {
     let width = parsed(words.next())?;
     let room: u16 = parsed(words.next())?;
-    let mut buffer = vec![in heap; 0xFF; usize::from(room)]?;
+    let mut buffer = or_not_understood(vec![in heap; 0xFF; usize::from(room)])?;
     write_page(heap, buffer.as_mut_slice(), width, words)
 }
 
@@ -97,7 +97,7 @@ fn write_page(
         Ok(pass) => {
             let mut encoder = RleEncoder::new(pass, out);
             for word in words {
-                let answer = Put::parse(heap, word)?.ask(&mut encoder);
+                let answer = or_not_understood(Put::parse(heap, word))?.ask(&mut encoder);
                 write!(text, "{answer} ")?;
             }
             let length = encoder.finish();

@@ -1,5 +1,5 @@
 //! The end of an encoder: its buffer goes back.
-ghost use Rattle.std.specs.Prelude.{◌≡◌, ◌+◌, ◌≤◌, false, length, take};
+ghost use Rattle.std.specs.Prelude.{◌≡◌, ◌+◌, ◌-◌, ◌≤◌, ◌++◌, false, length, take, replicate};
 ghost use Rattle.column.specs.Putting.{Unfinished, finished};
 ghost use Rattle.rle.specs.Runs.{padded, page};
 ghost use Rattle.packed.specs.Bytes.{overwrite};
@@ -39,7 +39,7 @@ impl Progress {
         ensures kept { Kept self out.new }
     {
         let end = self.write_end(out);
-        out[end..].fill(0);
+        clear_behind(out, end);
         end
     }
 
@@ -99,6 +99,15 @@ impl Progress {
         let group = group_bytes(padded_group(self.gathered.as_slice()), self.width);
         write_bytes(out, at, group.as_slice())
     }
+}
+
+// Zeros over the bytes from the page's end on.
+#[tactic(auto, using(crate::proofs::Closed::cleared))]
+fn clear_behind(out: &mut [u8], end: usize)
+    requires { end ≤ length out.old }
+    ensures { out.new ≡ take end out.old ++ replicate (length out.old - end) 0 }
+{
+    out[end..].fill(0);
 }
 
 // The values, filled up with zeros to a whole group.

@@ -156,7 +156,8 @@ impl PageReader<'_> {
         let taken = Taken::Filled(self.decoder.get_batch(cells.as_mut_slice()));
         write!(text, "{taken}:")?;
         for cell in &cells {
-            write!(text, " {}", cell.to_pattern())?;
+            text.push_str(" ")?;
+            write!(text, "{}", cell.to_pattern())?;
         }
         Ok(())
     }
